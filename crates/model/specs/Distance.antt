@@ -1,0 +1,54 @@
+-- Document 01, "Distance of a point": the bounds of a point's squared distance, in fine units, and the edges that may be named. Assumes nothing.
+use mathlib.Core.Path.{_≡_}
+use mathlib.Core.Bool.{cond}
+use mathlib.Core.List.{List, [], _∷_, _++_}
+use mathlib.Core.Logic.{_⊎_}
+use Prim.Native.Nat.{ℕ, zero, suc}
+use lib.IntN.{ℤ, pos, _*ℤ_}
+use lib.Signed.{ltZ}
+use Rattle.model.specs.Strips.{Strip}
+use Rattle.model.specs.Trees.{Tree, leaf, long, node}
+use Rattle.model.specs.Explore.{Cell, farthest², closest²}
+
+-- a point as the cell of half side 0 in fine units
+abbrev pub spot : ℤ → ℤ → Cell
+spot x y = record { cx = pos 16 *ℤ x; cy = pos 16 *ℤ y; s = pos 0 }
+
+-- ---- the strips of the leaves, in the store's order
+unfoldable pub leaves : Tree → List Strip
+leaves (leaf s) = s ∷ []
+leaves (long s) = s ∷ []
+leaves (node s l r) = leaves l ++ leaves r
+
+unfoldable pub leavesAll : List Tree → List Strip
+leavesAll [] = []
+leavesAll (t ∷ ts) = leaves t ++ leavesAll ts
+
+-- ---- the least value of f; a list that is empty has none, and gives 0
+abbrev pub lesser : ℤ → ℤ → ℤ
+lesser a b = cond (ltZ b a) b a
+
+unfoldable pub least : (Strip → ℤ) → List Strip → ℤ
+least f [] = pos 0
+least f (s ∷ []) = f s
+least f (s ∷ t ∷ ss) = lesser (f s) (least f (t ∷ ss))
+
+-- ---- the bounds: the least over the leaves of the least distance to the upright box, and of the greatest
+abbrev pub lo : List Tree → ℤ → ℤ → ℤ
+lo ts x y = least (closest² (spot x y)) (leavesAll ts)
+
+abbrev pub hi : List Tree → ℤ → ℤ → ℤ
+hi ts x y = least (farthest² (spot x y)) (leavesAll ts)
+
+-- ---- the edges that may be named: one of the edge's leaves attains the upper bound
+unfoldable pub leavesAt : List Tree → ℕ → List Strip
+leavesAt [] e = []
+leavesAt (t ∷ ts) zero = leaves t
+leavesAt (t ∷ ts) (suc e) = leavesAt ts e
+
+abbrev pub Some : (Strip → Type 0) → List Strip → Type 0
+Some P [] = ⊥
+Some P (s ∷ ss) = P s ⊎ Some P ss
+
+abbrev pub Attains : List Tree → ℤ → ℤ → ℕ → Type 0
+Attains ts x y e = Some (λ s. farthest² (spot x y) s ≡ hi ts x y) (leavesAt ts e)

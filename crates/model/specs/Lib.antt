@@ -1,0 +1,33 @@
+-- Document 01 as definitions, in its order and its terms. This is what a reader has to believe; all else in the repository is proved of it.
+-- Each file is one concern, with the section it stands for named at its head. Nothing here is proved beyond what a definition needs,
+-- apart from the last file, in which document 01's worked figures hold of the definitions.
+
+-- ---- "Refused jobs": the numbers, and which one is given
+pub mod Refusals
+-- ---- "The work and its edges": the job's limits, and its outline
+pub mod Jobs
+-- ---- "The job sheet": a number's text, a line, a layout of lines, the sheet
+pub mod Bytes
+pub mod Numbers
+pub mod Forms
+pub mod Layouts
+pub mod Sheets
+-- ---- "Strips" and "The store"
+pub mod Strips
+pub mod Trees
+pub mod Store
+-- ---- "Exploring the plate"
+pub mod Roots
+pub mod Explore
+pub mod Plates
+-- ---- "The words of demand 3"
+pub mod Fractions
+pub mod Exact
+-- ---- "Distance of a point"
+pub mod Distance
+-- ---- what each public entry answers and leaves
+pub mod Entries
+-- ---- what is or will be proved of all this
+pub mod Promises
+-- ---- "Figures to hold"
+pub mod Figures

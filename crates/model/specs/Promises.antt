@@ -1,0 +1,67 @@
+-- What is proved, or is yet to be, of the definitions: each promise as a named statement. docs/GUIDE.md says where each is proved.
+-- Assumes nothing.
+use mathlib.Core.Path.{_≡_}
+use mathlib.Core.Bool.{false}
+use mathlib.Core.Logic.{_⊎_}
+use mathlib.Core.List.{List, _++_}
+use Prim.Native.Nat.{ℕ, _+_, _*_, _≤_, _<_}
+use lib.IntN.{ℤ, pos}
+use lib.ListN.{length, getD, take}
+use Rattle.model.specs.declared.Job.{Job}
+use Rattle.model.specs.declared.Read.{Read}
+use Rattle.model.specs.Jobs.{outline, cellLog, judge}
+use Rattle.model.specs.Bytes.{bytes}
+use Rattle.model.specs.Sheets.{sheetOf}
+use Rattle.model.specs.Trees.{anyLong}
+use Rattle.model.specs.Store.{forest}
+use Rattle.model.specs.Fractions.{Frac, Point, dist², _≤ᶠ_}
+use Rattle.model.specs.Plates.{Verdict, letter, columns, mapOf}
+use Rattle.model.specs.Exact.{Points, Outline, CellPoint, Exact, Demand3}
+use Rattle.model.specs.Distance.{lo, hi}
+use Rattle.model.specs.Entries.{read, write, writeLeaves}
+
+-- a job value of the code: its outline has 64 places of eight numbers
+abbrev pub Whole : Job → Type 0
+Whole j = length (j .places) ≡ 512
+
+abbrev pub readAs : Job → Read
+readAs j = record { refusal = 0; job = j }
+
+-- ---- demand 2: the round trips
+-- a legal job's sheet reads back as that job
+abbrev pub JobKept : Type 0
+JobKept = (j : Job) → Whole j → judge j ≡ 0 → read (sheetOf j) ≡ readAs j
+
+-- the bytes are the same, or they are but for a line that states the default grain, which is dropped
+abbrev pub Kept : List ℕ → List ℕ → Type 0
+Kept s t = (t ≡ s) ⊎ ((front : List ℕ) × (back : List ℕ) × (s ≡ front ++ (bytes "(grain 10)\n" ++ back)) × (t ≡ front ++ back))
+
+-- an accepted sheet, read and written, keeps its bytes in that sense
+abbrev pub SheetKept : Type 0
+SheetKept = (s : List ℕ) → read s .refusal ≡ 0 → Kept s (sheetOf (read s .job))
+
+-- what an accepted write leaves reads back as the job
+abbrev pub WriteRead : Type 0
+WriteRead = (j : Job) (out : List ℕ) → Whole j → write j out .refusal ≡ 0 → read (take (write j out .bytes) (writeLeaves j out)) ≡ readAs j
+
+-- ---- demand 3
+-- of the map in `cells`: each smallest cell's byte is the letter of a verdict of which demand 3 holds
+pub record MapHolds (j : Job) (cells : List ℕ) : Type 0 where
+  pub verdict : ℕ → ℕ → Verdict
+  pub letters : (i k : ℕ) → i < columns j → k < columns j → getD cells (k * columns j + i) 0 ≡ letter (verdict i k)
+  pub demand3 : (i k : ℕ) → i < columns j → k < columns j → Demand3 (Outline (outline j)) (CellPoint (cellLog j) (j .x) (j .y) i k) (j .reach) (j .grain) (cellLog j) (verdict i k)
+
+abbrev pub DemandThree : Type 0
+DemandThree = (j : Job) → judge j ≡ 0 → anyLong (forest j) ≡ false → MapHolds j (mapOf j)
+
+-- a cell has one exact verdict at the most
+abbrev pub ExactUnique : Type 1
+ExactUnique = (O C : Points) (R : ℤ) (Q : Point) → C Q → (v w : Verdict) → Exact O C R v → Exact O C R w → v ≡ w
+
+-- ---- the bounds of a point's distance are bounds of the outline's: z is a squared length in fine units
+abbrev pub fine² : ℤ → Frac
+fine² z = record { top = z; low = pos 256; up = Rattle.integers.specs.Order.num⁺ 255 }
+
+pub record Bounds (j : Job) (Q : Point) (x y : ℤ) : Type 0 where
+  pub none-nearer : (P : Point) → Outline (outline j) P → fine² (lo (forest j) x y) ≤ᶠ dist² P Q
+  pub some-near : (P : Point) × Outline (outline j) P × (dist² P Q ≤ᶠ fine² (hi (forest j) x y))

@@ -1,0 +1,38 @@
+-- The sizes that the numbers of a strip are kept within. They are crude, a power of two above what the bounds on the power form give at once,
+-- and still small enough that no step of a search leaves 64 bits: with |w| ≤ 2^30, |axis| ≤ 2^29 and box ≤ 2^27 the cross product stays
+-- below 2^61, p² + q² below 2^60 and the sum of squares of the inside test below 2^63. Assumes nothing.
+use mathlib.Core.List.{List, [], _∷_}
+use Prim.Native.Nat.{ℕ, _≤_}
+use lib.Dec.{T}
+use lib.IntN.{ℤ, natAbs}
+use lib.Signed.{nonNeg}
+use Rattle.model.specs.Jobs.{Cubic, Edge}
+use Rattle.model.specs.Strips.{Side, Strip}
+use Rattle.model.specs.Trees.{Tree, leaf, long, node}
+
+-- ---- the control numbers of an edge are coordinates
+pub record ControlSized (b : Cubic) : Type 0 where
+  pub b0-size : natAbs (b .b0) ≤ 1000000
+  pub b1-size : natAbs (b .b1) ≤ 1000000
+  pub b2-size : natAbs (b .b2) ≤ 1000000
+  pub b3-size : natAbs (b .b3) ≤ 1000000
+
+-- ---- a strip, and every strip of a tree
+pub record SideSized (s : Side) : Type 0 where
+  pub centre-size : natAbs (s .centre) ≤ 536870912
+  pub axis-size : natAbs (s .axis) ≤ 536870912
+  pub box-size : natAbs (s .box) ≤ 134217728
+  pub box-above : T (nonNeg (s .box))
+
+pub record Sized (S : Strip) : Type 0 where
+  pub x-sized : SideSized (S .x)
+  pub y-sized : SideSized (S .y)
+
+abbrev pub AllSized : Tree → Type 0
+AllSized (leaf s) = Sized s
+AllSized (long s) = Sized s
+AllSized (node s l r) = Sized s × AllSized l × AllSized r
+
+abbrev pub EachSized : List Tree → Type 0
+EachSized [] = Unit {0}
+EachSized (t ∷ ts) = AllSized t × EachSized ts
