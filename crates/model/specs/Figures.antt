@@ -28,6 +28,7 @@ use Rattle.model.specs.Roots.{rootBy, root}
 use Rattle.model.specs.Explore.{isInside, isAway₁, isAway₂, explore, exploreAll}
 use Rattle.model.specs.Plates.{drawn, mapped, mapOf}
 use Rattle.model.specs.Distance.{leaves, leavesAll, leavesAt, least}
+use Rattle.model.specs.Printing.{rowText, rowsText, mapForm, refusedForm, mapText, answered, mapAnswered, printed}
 use Rattle.model.specs.Entries.{readAnswer, read, mapRefusal, map, pointRefusal, IsNearest}
 
 -- ---- the kinds of figures, and when one holds
@@ -42,8 +43,8 @@ pub data Figure : Type 0 where
   point-of : Job → ℤ → ℤ → List ℤ → Nearest → Figure
   -- a sheet and its job
   sheet-of : String → Job → Figure
-  -- a job and its map's letters
-  letters-of : Job → String → Figure
+  -- the program's input and what it prints
+  prints : String → String → Figure
 
 abbrev pub Holds : Figure → Type 0
 Holds (side-of b d k s) = sideAt b (denominator d) (middle k) ≡ s
@@ -51,7 +52,7 @@ Holds (tree-of T e ns) = flatten (tree T e) ≡ ns
 Holds (map-of j s c a) = map j (replicate s (pos 0)) (replicate c 0) ≡ a
 Holds (point-of j x y ns a) = IsNearest j x y ns a
 Holds (sheet-of s j) = (read (bytes s) .refusal ≡ 0) × (read (bytes s) .job ≡ j) × (sheetOf j ≡ bytes s)
-Holds (letters-of j s) = mapOf j ≡ bytes s
+Holds (prints s t) = printed (bytes s) ≡ bytes t
 
 abbrev pub AllHold : List Figure → Type 0
 AllHold [] = Unit {0}
@@ -84,6 +85,9 @@ straight T = single T (pos 0 ∷ pos 0 ∷ pos 333333 ∷ pos 0 ∷ pos 666666 �
 abbrev pub sample : Job
 sample = record { x = negsuc 7; y = negsuc 7; n = pos 4; m = pos 1; reach = pos 4; grain = pos 1; count = 1; places = replicate 512 (pos 0) }
 
+abbrev pub sampleSheet : String
+sampleSheet = "(job\n(plate -8 -8 4)\n(cell 1)\n(reach 4)\n(grain 1)\n(edge (0 0) (0 0) (0 0) (0 0))\n)\n"
+
 abbrev pub pointStore : List ℤ
 pointStore = pos 0 ∷ pos 0 ∷ pos 0 ∷ pos 0 ∷ pos 2 ∷ pos 2 ∷ pos 1 ∷ []
 
@@ -113,17 +117,19 @@ figures =
     ∷ map-of (straight (pos 488)) 14329 1 (record { refusal = 5; nodes = 0 })
     -- the point edge at 0, asked at (3, 4)
     ∷ point-of sample (pos 3) (pos 4) pointStore (record { refusal = 0; lo = pos 5960; hi = pos 6856; edge = 0 })
-    -- the sample sheet and its map
-    ∷ sheet-of "(job\n(plate -8 -8 4)\n(cell 1)\n(reach 4)\n(grain 1)\n(edge (0 0) (0 0) (0 0) (0 0))\n)\n" sample
-    ∷ letters-of sample "CCCCCCCCCCCDDCCCCCDDDDCCCDDIIDDCCDDIIDDCCCDDDDCCCCCDDCCCCCCCCCCC"
+    -- the sample sheet, its job and its map
+    ∷ sheet-of sampleSheet sample
+    ∷ prints sampleSheet "(map 8\n(row CCCCCCCC)\n(row CCCDDCCC)\n(row CCDDDDCC)\n(row CDDIIDDC)\n(row CDDIIDDC)\n(row CCDDDDCC)\n(row CCCDDCCC)\n(row CCCCCCCC)\n)\n"
+    -- the shortest input of all
+    ∷ prints "" "(refused 1)\n"
     ∷ []
 
 -- ---- the statement
 pub figures-hold : AllHold figures
-unfolding sideAt tree pieces strip absℤ map mapRefusal accepted counted ranged celled between coordinate isZero placed forest outline edgesFrom pointRefusal begins same leaves leavesAll leavesAt least read readAnswer readSheet ended layout tailLayout jobForm plateForm cellForm reachForm grainForm edgeForm endForm readAll readLines readForm byte number natural moreDigits digit joined fit judge sheetOf writeAll writeLines writeForm text decimal stated edgeLines mapOf mapped rowMajor table drawn exploreAll explore isInside isAway₁ isAway₂ root rootBy
+unfolding sideAt tree pieces strip absℤ map mapRefusal accepted counted ranged celled between coordinate isZero placed forest outline edgesFrom pointRefusal begins same leaves leavesAll leavesAt least read readAnswer readSheet ended layout tailLayout jobForm plateForm cellForm reachForm grainForm edgeForm endForm readAll readLines readForm byte number natural moreDigits digit joined fit judge sheetOf writeAll writeLines writeForm text decimal stated edgeLines mapOf mapped rowMajor table drawn exploreAll explore isInside isAway₁ isAway₂ root rootBy printed mapAnswered answered mapText rowsText rowText mapForm refusedForm
 figures-hold =
     refl and refl and refl and refl and refl and refl and refl and refl and refl and refl and refl and refl and refl
     and (record { refusal-is = refl; lo-is = refl; hi-is = refl; edge-is = inl refl })
     and (refl, refl, refl)
-    and refl
+    and refl and refl
     and tt

@@ -27,6 +27,8 @@ pub mod Exact
 pub mod Distance
 -- ---- what each public entry answers and leaves
 pub mod Entries
+-- ---- what the program prints
+pub mod Printing
 -- ---- what is or will be proved of all this
 pub mod Promises
 -- ---- "Figures to hold"

@@ -1,0 +1,30 @@
+//! A second implementation of the clearance map, written from document 01
+//! alone. It favours code that is plainly right over code that is fast: the
+//! strips are worked out in `i128`, the trees are linked values and not
+//! numbers in a slice, and nothing is saved between calls.
+//!
+//! The four entries are [`read`], [`write()`], [`map`] and [`point`]. Each takes
+//! any argument whatever and gives a result or a [`Refusal`].
+
+#![forbid(unsafe_code)]
+#![warn(missing_docs)]
+
+mod entries;
+mod explore;
+mod job;
+pub mod listing;
+mod plate;
+mod point;
+mod refusal;
+mod sheet;
+pub mod strips;
+pub mod trees;
+
+pub use entries::{map, point, read, write};
+pub use job::{
+    judge, judge_with_spot, Job, COORDINATE_LIMIT, EDGE_LIMIT, GRAIN_LIMIT, NUMBERS_AN_EDGE,
+    REACH_LIMIT,
+};
+pub use point::Nearest;
+pub use refusal::Refusal;
+pub use sheet::{DEFAULT_GRAIN, SHEET_LIMIT};

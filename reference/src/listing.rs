@@ -1,0 +1,39 @@
+//! The texts the program prints. The map and the refusal are those of document
+//! 01, "The job sheet"; the store and the point are this program's own.
+
+use crate::point::Nearest;
+use crate::refusal::Refusal;
+use crate::trees::NUMBERS_A_NODE;
+use std::fmt::Write;
+
+/// A finished map of a square plate, lowest row first.
+pub fn map(letters: &[u8]) -> String {
+    let side = letters.len().isqrt();
+    let mut text = format!("(map {side}\n");
+    for row in letters.chunks(side.max(1)) {
+        text += &format!("(row {})\n", String::from_utf8_lossy(row));
+    }
+    text + ")\n"
+}
+
+/// The nodes of a store, one a line.
+pub fn store(numbers: &[i32]) -> String {
+    let nodes = numbers.chunks(NUMBERS_A_NODE);
+    let mut text = format!("(store {}\n", nodes.len());
+    for node in nodes {
+        let words: Vec<String> = node.iter().map(i32::to_string).collect();
+        // Writing to a string cannot fail.
+        let _ = writeln!(text, "{}", words.join(" "));
+    }
+    text + ")\n"
+}
+
+/// The bounds on a point's distance.
+pub fn point(nearest: &Nearest) -> String {
+    format!("(point {} {} {})\n", nearest.lo, nearest.hi, nearest.edge)
+}
+
+/// A refusal.
+pub fn refusal(refusal: Refusal) -> String {
+    format!("(refused {})\n", refusal.number())
+}

@@ -1,0 +1,105 @@
+//! The command-line program: document 01's program as `map`, and three more
+//! commands for comparing it with another implementation.
+
+use clearance_reference::{judge_with_spot, listing, map, point, read, trees, write};
+use clearance_reference::{Refusal, SHEET_LIMIT};
+use std::io::{self, Read, Write};
+use std::process::ExitCode;
+
+/// Numbers of store the program lends, as document 01 has it.
+const LENT_NUMBERS: usize = 16_380;
+/// Bytes of map the program lends, as document 01 has it.
+const LENT_CELLS: usize = 65_536;
+
+const USAGE: &str = "\
+usage: clearance-reference COMMAND < SHEET
+
+Reads a job sheet from standard input.
+  map        write the clearance map
+  store      write the trees, a node a line, for any number of nodes
+  point X Y  write (point LO HI EDGE), fine units squared
+  write      write the sheet back
+  --help     write this text
+
+A refusal is written as (refused NUMBER).
+";
+
+enum Command {
+    Map,
+    Store,
+    Point(i32, i32),
+    Write,
+}
+
+fn command(arguments: &[&str]) -> Option<Command> {
+    match arguments {
+        ["map"] => Some(Command::Map),
+        ["store"] => Some(Command::Store),
+        ["point", x, y] => Some(Command::Point(x.parse().ok()?, y.parse().ok()?)),
+        ["write"] => Some(Command::Write),
+        _ => None,
+    }
+}
+
+/// What the program writes for a sheet, or why it is refused.
+fn answer(command: &Command, sheet: &[u8]) -> Result<Vec<u8>, Refusal> {
+    let job = read(sheet)?;
+    match *command {
+        Command::Map => {
+            let mut store = [0; LENT_NUMBERS];
+            let mut cells = [0; LENT_CELLS];
+            map(&job, &mut store, &mut cells)?;
+            let side = 1_usize << (job.n - job.m);
+            Ok(listing::map(&cells[..side * side]).into())
+        }
+        Command::Store => {
+            let numbers = trees::store_numbers(&trees::grow(&job)?);
+            Ok(listing::store(&numbers).into())
+        }
+        Command::Point(x, y) => {
+            // The spot's range comes before the length of the pieces.
+            judge_with_spot(&job, x, y)?;
+            let numbers = trees::store_numbers(&trees::grow(&job)?);
+            Ok(listing::point(&point(&job, x, y, &numbers)?).into())
+        }
+        Command::Write => {
+            let mut lent = [0; SHEET_LIMIT];
+            let length = write(&job, &mut lent)?;
+            Ok(lent[..length].to_vec())
+        }
+    }
+}
+
+/// Answers standard input on standard output.
+fn run(command: &Command) -> io::Result<()> {
+    // One byte past the limit is enough to know that a sheet is too long.
+    let mut sheet = Vec::new();
+    io::stdin()
+        .take(SHEET_LIMIT as u64 + 1)
+        .read_to_end(&mut sheet)?;
+    let text = answer(command, &sheet).unwrap_or_else(|refusal| listing::refusal(refusal).into());
+    io::stdout().write_all(&text)
+}
+
+fn main() -> ExitCode {
+    let arguments: Vec<String> = std::env::args_os()
+        .skip(1)
+        .map(|argument| argument.to_string_lossy().into_owned())
+        .collect();
+    let arguments: Vec<&str> = arguments.iter().map(String::as_str).collect();
+    let done = if let ["--help" | "-h"] = arguments[..] {
+        io::stdout().write_all(USAGE.as_bytes())
+    } else if let Some(command) = command(&arguments) {
+        run(&command)
+    } else {
+        eprint!("clearance-reference: unknown command or number\n{USAGE}");
+        return ExitCode::from(2);
+    };
+    match done {
+        Ok(()) => ExitCode::SUCCESS,
+        Err(error) => {
+            eprintln!("clearance-reference: {error}");
+            ExitCode::FAILURE
+        }
+    }
+}

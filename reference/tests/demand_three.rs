@@ -1,0 +1,134 @@
+//! Finished maps against the exact reading of demand 3, and sham maps too.
+
+mod common;
+
+use clearance_reference::{Job, Refusal};
+use common::brute_force::{fault, outline_points, sights, Sight};
+use common::jobs::random_job;
+use common::random::Xorshift;
+use common::{edge, finished, job_with};
+
+/// How often each letter stands in a map: C, I, D.
+fn tally(letters: &[u8]) -> [usize; 3] {
+    [b'C', b'I', b'D'].map(|letter| letters.iter().filter(|&&l| l == letter).count())
+}
+
+/// What a run over random jobs came to.
+#[derive(Default)]
+struct Totals {
+    maps: usize,
+    /// Maps with a letter that is not D.
+    not_all_d: usize,
+    /// C, I and D.
+    letters: [usize; 3],
+    /// D where R exceeds E, so that the band has an inner edge.
+    banded: usize,
+}
+
+fn check_random_jobs(seed: u64, jobs: usize, spread: i32) -> Totals {
+    let mut rng = Xorshift::new(seed);
+    let mut totals = Totals::default();
+    for _ in 0..jobs {
+        let job = random_job(&mut rng, spread);
+        match finished(&job) {
+            Err(refusal) => assert_eq!(refusal, Refusal::Long),
+            Ok(done) => {
+                let seen = sights(&job, &outline_points(&job));
+                assert_eq!(fault(&job, &seen, &done.letters), None, "{job:?}");
+                check_that_opposites_fail(&job, &seen, &done.letters);
+                totals.add(&job, &done.letters);
+            }
+        }
+    }
+    totals
+}
+
+impl Totals {
+    fn add(&mut self, job: &Job, letters: &[u8]) {
+        let counts = tally(letters);
+        self.maps += 1;
+        self.not_all_d += usize::from(counts[2] < letters.len());
+        self.letters = [0, 1, 2].map(|index| self.letters[index] + counts[index]);
+        if 2 * job.reach > 6 * job.grain + (3 << job.m) {
+            self.banded += counts[2];
+        }
+    }
+
+    /// Guards against a run that shows little, and against all-D maps: at
+    /// least so many maps, cells of each letter, and cells in a true band.
+    fn check(&self, maps: usize, cells: usize, banded: usize) {
+        assert!(self.maps > maps, "{}", self.maps);
+        assert!(2 * self.not_all_d > self.maps, "{}", self.not_all_d);
+        let fewest = self.letters.iter().min().unwrap();
+        assert!(*fewest > cells, "{:?}", self.letters);
+        assert!(self.banded > banded, "{}", self.banded);
+    }
+}
+
+/// C and I are opposites, so the check must not let either stand for the other.
+fn check_that_opposites_fail(job: &Job, seen: &[Sight], letters: &[u8]) {
+    for (sight, letter) in seen.iter().zip(letters) {
+        match letter {
+            b'C' => assert!(!sight.allows(job, b'I')),
+            b'I' => assert!(!sight.allows(job, b'C')),
+            _ => (),
+        }
+    }
+}
+
+#[test]
+fn random_maps_of_few_cells_meet_demand_three() {
+    check_random_jobs(0x51_7cc1, 2_000, 3).check(1_600, 5_000, 2_000);
+}
+
+#[test]
+fn random_maps_of_many_cells_meet_demand_three() {
+    check_random_jobs(0xb7_2722, 600, 5).check(480, 15_000, 4_000);
+}
+
+/// Two far edges on a wide plate.
+fn wide_job() -> Job {
+    let mut job = job_with(
+        &[
+            edge([-300, -250, -200, -300], [-300, -200, -300, -250]),
+            edge([300, 250, 200, 300], [300, 200, 300, 250]),
+        ],
+        4,
+    );
+    (job.x, job.y, job.n, job.m, job.reach) = (-512, -512, 10, 5, 120);
+    job
+}
+
+#[test]
+fn sham_maps_fail_demand_three() {
+    let job = wide_job();
+    let seen = sights(&job, &outline_points(&job));
+    let done = finished(&job).unwrap();
+    assert_eq!(fault(&job, &seen, &done.letters), None);
+    assert!(tally(&done.letters).iter().all(|&count| count > 0));
+    for letter in [b'C', b'I', b'D', b'M', 0] {
+        assert!(fault(&job, &seen, &[letter; 1_024]).is_some());
+    }
+
+    let mut first_edge_only = job.clone();
+    first_edge_only.count = 1;
+    first_edge_only.places[8..].fill(0);
+    let sham = finished(&first_edge_only).unwrap();
+    assert!(fault(&job, &seen, &sham.letters).is_some());
+
+    let mut upside_down = done.letters.clone();
+    upside_down.reverse();
+    upside_down.rotate_left(1);
+    assert!(fault(&job, &seen, &upside_down).is_some());
+}
+
+/// The band of D is E wide on both sides, so on a wide plate it holds far fewer
+/// cells than the plate has.
+#[test]
+fn doubt_is_allowed_only_near_the_reach() {
+    let job = wide_job();
+    let seen = sights(&job, &outline_points(&job));
+    let allowed = seen.iter().filter(|sight| sight.allows(&job, b'D')).count();
+    let [_, _, d] = tally(&finished(&job).unwrap().letters);
+    assert!(d <= allowed && allowed < 512, "{d} {allowed}");
+}
