@@ -1,0 +1,47 @@
+use Prim.Native.Nat.{_<_, _^_}
+use native.Mathlib.Omega.{arith}
+use mathlib.Core.Path.{_≡_}
+use lib.ListN.{length}
+use Rattle.flat_jobs.proofs.Steps as steps
+use borrow.Author.Needs.{needs}
+use Rattle.flat_jobs.proofs.put_job.Statement.{statement}
+use Rattle.flat_jobs.proofs.put_job.Tie as tie
+
+head-of-requires : tie.Need-head-of-requires
+head-of-requires c κs = search needs
+
+slice-aggregate-put-from : tie.Need-slice-aggregate-put-from
+slice-aggregate-put-from c = search needs
+
+put-from-requires : tie.Need-put-from-requires
+put-from-requires c κs = search needs
+
+slice-aggregate-put-from-2 : tie.Need-slice-aggregate-put-from-2
+slice-aggregate-put-from-2 c = search needs
+
+put-from-requires-2 : tie.Need-put-from-requires-2
+put-from-requires-2 c κs =
+    let s = c .before .before .before .before .before .before .before .before in
+    let n : length (s .args .job .places) ≡ 512 = search needs in
+    omega (arith, s .pre .1, c .before .before .before .put-from .kept .0)
+
+same-length : tie.Need-same-length
+same-length c = search needs
+
+returns : tie.Need-returns
+returns c =
+    let s = c .before .before .before .before .before .before .before .before .before .before in
+    let n : length (s .args .job .places) ≡ 512 = search needs in
+    search (needs, steps.row-now)
+
+pub put-job-spec : {M : Type 1} → statement M
+put-job-spec =
+    tie.close
+    (tie.spec
+    head-of-requires
+    slice-aggregate-put-from
+    put-from-requires
+    slice-aggregate-put-from-2
+    put-from-requires-2
+    same-length
+    returns)

@@ -1,0 +1,2 @@
+-- A job as 519 numbers in a row, for callers that cannot pass the struct.
+pub mod FlatJobs

@@ -1,0 +1,112 @@
+// A job as 519 numbers in a row, read and written.
+use model::Job;
+ghost use mathlib.Core.Path.{_≡_};
+ghost use mathlib.Core.List.{_++_};
+ghost use Prim.Native.Nat.{_+_, _≤_};
+ghost use lib.IntN.{ℤ, pos};
+ghost use lib.ListN.{length, getD, drop};
+ghost use lib.Seq.{paste};
+ghost use Rattle.sequences.specs.Tables.{table};
+ghost use Rattle.flat_jobs.specs.FlatJobs.{countOf, jobFrom, headOf, numbersOf};
+
+fn count_of(z: i32) -> usize
+    ensures count { λ r. ⌜ r ≡ countOf z ⌝ }
+{
+    if z < 0 { 0 } else { z as usize }
+}
+
+// Number i, or 0 past the end.
+fn number_at(numbers: &[i32], i: usize) -> i32
+    ensures number { λ r. ⌜ r ≡ getD (now (numbers .entry)) i (pos 0) ⌝ }
+{
+    if i < numbers.len() { numbers[i] } else { 0 }
+}
+
+// 512 zeros, to be written over.
+fn no_places() -> [i32; 512]
+    ensures long { λ r. ⌜ length r ≡ 512 ⌝ }
+{
+    [0i32; 512]
+}
+
+fn places_of(numbers: &[i32]) -> [i32; 512]
+    ensures places { λ r. ⌜ r ≡ table 512 (λ i. getD (now (numbers .entry)) (7 + i) (pos 0)) ⌝ }
+{
+    let mut places = no_places();
+    let mut i: usize = 0;
+    while i < 512 {
+        let v = number_at(numbers, 7 + i);
+        places[i] = v;
+        i += 1;
+    }
+    places
+}
+
+pub fn job_from(numbers: &[i32]) -> Job
+    ensures job { λ r. ⌜ r ≡ jobFrom (now (numbers .entry)) ⌝ }
+{
+    let x = number_at(numbers, 0);
+    let y = number_at(numbers, 1);
+    let n = number_at(numbers, 2);
+    let m = number_at(numbers, 3);
+    let reach = number_at(numbers, 4);
+    let grain = number_at(numbers, 5);
+    let count = count_of(number_at(numbers, 6));
+    let places = places_of(numbers);
+    Job {
+        x,
+        y,
+        n,
+        m,
+        reach,
+        grain,
+        count,
+        places,
+    }
+}
+
+fn count_number(n: usize) -> i32
+    requires { ⌜ n ≤ 64 ⌝ }
+    ensures number { λ r. ⌜ r ≡ pos n ⌝ }
+{
+    n as i32
+}
+
+fn head_of(job: Job) -> [i32; 7]
+    requires { ⌜ job .count ≤ 64 ⌝ }
+    ensures head { λ r. ⌜ r ≡ headOf job ⌝ }
+{
+    let x = job.x;
+    let y = job.y;
+    let n = job.n;
+    let m = job.m;
+    let reach = job.reach;
+    let grain = job.grain;
+    let count = count_number(job.count);
+    [x, y, n, m, reach, grain, count]
+}
+
+// The numbers from place `at` on become those of `from`.
+fn put_from(numbers: &mut [i32], at: usize, from: &[i32])
+    requires { ⌜ at + length (now from) ≤ length (now numbers) ⌝ }
+    ensures wrote { λ _. ⌜ now (numbers .exit) ≡ paste (now (numbers .entry)) at (now (from .entry)) (length (now (from .entry))) ⌝ }
+{
+    let mut i: usize = 0;
+    while i < from.len() {
+        let v = from[i];
+        let k = at + i;
+        numbers[k] = v;
+        i += 1;
+    }
+}
+
+// The front of `numbers` becomes the job's row.
+pub fn put_job(job: Job, numbers: &mut [i32])
+    requires { ⌜ (job .count ≤ 64) × (519 ≤ length (now numbers)) ⌝ }
+    ensures wrote { λ _. ⌜ now (numbers .exit) ≡ numbersOf job ++ drop 519 (now (numbers .entry)) ⌝ }
+{
+    let head = head_of(job);
+    let places = job.places;
+    put_from(numbers, 0, &head);
+    put_from(numbers, 7, &places);
+}
