@@ -1,12 +1,10 @@
--- What the code's structs stand for in the model, and shortness with the limit of 16 grains as one number. Assumes nothing.
+-- What the code's structs stand for in the model. Assumes nothing.
 use mathlib.Core.Path.{_≡_, refl, ap, _∙_}
-use mathlib.Core.Bool.{Bool, _&&_}
-use lib.IntN.{ℤ, _+ℤ_}
-use lib.Signed.{leZ}
-use Rattle.integers.specs.Absolute.{absℤ}
+use lib.IntN.{ℤ}
 use Rattle.model.specs.Jobs.{Cubic}
 use Rattle.model.specs.Strips.{Side}
 use Rattle.ranges.specs.PowerForm.{Form}
+use Rattle.subtrees.specs.Subtrees.{shortIn}
 use Rattle.strips.specs.declared.Power.{Power}
 use Rattle.strips.specs.declared.Extent.{Extent}
 
@@ -18,13 +16,6 @@ form c = record { c0 = c .c0; c1 = c .c1; c2 = c .c2; c3 = c .c3 }
 
 abbrev pub side : Extent → Side
 side s = record { centre = s .centre; axis = s .axis; box = s .half }
-
--- with limit = 16 T these are the model's `fits T` and `short T`
-abbrev pub fitsIn : ℤ → Side → Bool
-fitsIn limit s = leZ (absℤ (s .axis) +ℤ s .box) limit
-
-abbrev pub shortIn : ℤ → Side → Side → Bool
-shortIn limit x y = fitsIn limit x && fitsIn limit y
 
 pub short-eq : (limit : ℤ) {x y u v : Side} → x ≡ u → y ≡ v → shortIn limit x y ≡ shortIn limit u v
 short-eq limit {x} {y} {u} {v} e f = ap (λ (z : Side). shortIn limit z y) e ∙ ap (λ (z : Side). shortIn limit u z) f

@@ -6,7 +6,8 @@ ghost use lib.IntN.{natAbs};
 ghost use lib.Signed.{nonNeg};
 ghost use Rattle.ranges.specs.Sizes.{ControlSized, SideSized};
 ghost use Rattle.ranges.specs.PowerForm.{formOf, FormSized, a0, a1, a2, centreBy, axisBy, secondBy, thirdBy, boxBy, sideBy};
-ghost use Rattle.strips.specs.Structs.{cubic, form, side, fitsIn, shortIn};
+ghost use Rattle.subtrees.specs.Subtrees.{fitsIn, shortIn, shortBy};
+ghost use Rattle.strips.specs.Structs.{cubic, form, side};
 
 // The power form in one coordinate.
 pub struct Power {
@@ -143,7 +144,7 @@ pub fn is_short(x: Extent, y: Extent, limit: i64) -> bool
 pub fn piece_of(cx: Power, cy: Power, n: usize, m: usize, limit: i64) -> Piece
     requires { ⌜ FormSized (form cx) × FormSized (form cy) × (2 ≤ n) × (n ≤ 2048) × (m ≤ n) ⌝ }
     ensures strip { λ r. ⌜ (side (r .x) ≡ sideBy (form cx) n m) × (side (r .y) ≡ sideBy (form cy) n m) ⌝ }
-    ensures short { λ r. ⌜ r .short ≡ shortIn limit (sideBy (form cx) n m) (sideBy (form cy) n m) ⌝ }
+    ensures short { λ r. ⌜ r .short ≡ shortBy limit (form cx) (form cy) n m ⌝ }
 {
     let x = extent_of(cx, n, m);
     let y = extent_of(cy, n, m);
