@@ -8,7 +8,7 @@ use lib.Dec.{T}
 use lib.IntN.{ℤ, pos, natAbs}
 use lib.ListN.{length, getD, take, drop, length-append, length-drop}
 use lib.Seq.{take-at, take-all, drop-at, drop-drop}
-use Rattle.model.specs.Strips.{Strip}
+use Rattle.model.specs.Strips.{Side, Strip}
 use Rattle.model.specs.Trees.{Tree, leaf, long, node}
 use Rattle.model.specs.Store.{width, size, sizes, numbers, flatten, flattenAll}
 
@@ -44,17 +44,22 @@ later l r t e = ap (λ (z : List ℤ). drop (width * size t) z) e ∙ drop-at (f
 pub begun : (l r : List ℤ) (t : Tree) → l ≡ flatten t ++ r → Begins t l
 begun l r t e = e ∙ ap (λ (z : List ℤ). flatten t ++ z) (sym (later l r t e))
 
+-- ---- places inside a node: a strip's coordinate i has its centre, its axis and its box two apart, and the node count stands last
+abbrev pub countPlace : ℕ
+countPlace = 6
+
+abbrev pub HasSide : List ℤ → ℕ → Side → Type 0
+HasSide l i s = (getD l i (pos 0) ≡ s .centre) × (getD l (i + 2) (pos 0) ≡ s .axis) × (getD l (i + 4) (pos 0) ≡ s .box)
+
+-- the first node's strip is s
+abbrev pub HasStrip : List ℤ → Strip → Type 0
+HasStrip l s = HasSide l 0 (s .x) × HasSide l 1 (s .y)
+
 -- the node count of the first node, whatever follows the tree
-pub count-first : (t : Tree) (rest : List ℤ) → getD (flatten t ++ rest) 6 (pos 0) ≡ pos (size t)
+pub count-first : (t : Tree) (rest : List ℤ) → getD (flatten t ++ rest) countPlace (pos 0) ≡ pos (size t)
 count-first (leaf s) rest = refl
 count-first (long s) rest = refl
 count-first (node s l r) rest = refl
-
--- ---- the first node's strip is s
-abbrev pub HasStrip : List ℤ → Strip → Type 0
-HasStrip l s =
-    (getD l 0 (pos 0) ≡ s .x .centre) × (getD l 1 (pos 0) ≡ s .y .centre) × (getD l 2 (pos 0) ≡ s .x .axis)
-    × (getD l 3 (pos 0) ≡ s .y .axis) × (getD l 4 (pos 0) ≡ s .x .box) × (getD l 5 (pos 0) ≡ s .y .box)
 
 -- a list by its first numbers
 heads : (l : List ℤ) → width ≤ length l → l ≡ getD l 0 (pos 0) ∷ getD l 1 (pos 0) ∷ getD l 2 (pos 0) ∷ getD l 3 (pos 0) ∷ getD l 4 (pos 0) ∷ getD l 5 (pos 0) ∷ getD l 6 (pos 0) ∷ drop width l
@@ -67,11 +72,11 @@ heads (a ∷ b ∷ c ∷ d ∷ e ∷ []) h = absurd (omega arith)
 heads (a ∷ b ∷ c ∷ d ∷ e ∷ f ∷ []) h = absurd (omega arith)
 heads (a ∷ b ∷ c ∷ d ∷ e ∷ f ∷ g ∷ l) h = refl
 
-front : (l : List ℤ) (s : Strip) (n : ℕ) → width ≤ length l → HasStrip l s → getD l 6 (pos 0) ≡ pos n → l ≡ numbers s n (drop width l)
-front l s n h k c = heads l h ∙ rw (k .0, k .1, k .2, k .3, k .4, k .5, c)
+front : (l : List ℤ) (s : Strip) (n : ℕ) → width ≤ length l → HasStrip l s → getD l countPlace (pos 0) ≡ pos n → l ≡ numbers s n (drop width l)
+front l s n h k c = heads l h ∙ rw (k .0 .0, k .1 .0, k .0 .1, k .1 .1, k .0 .2, k .1 .2, c)
 
 strip-of : (l r : List ℤ) (s : Strip) (n : ℕ) → l ≡ numbers s n r → HasStrip l s
-strip-of l r s n e = rw e (refl, refl, refl, refl, refl, refl)
+strip-of l r s n e = rw e ((refl, refl, refl), (refl, refl, refl))
 
 abbrev pub top : Tree → Strip
 top (leaf s) = s
@@ -83,10 +88,10 @@ begins-strip (leaf s) l e = strip-of l (drop width l) s 1 e
 begins-strip (long s) l e = strip-of l (drop width l) s 1 e
 begins-strip (node s a b) l e = strip-of l ((flatten a ++ flatten b) ++ drop (width * suc (size a + size b)) l) s (suc (size a + size b)) e
 
-pub begins-count : (t : Tree) (l : List ℤ) → Begins t l → getD l 6 (pos 0) ≡ pos (size t)
-begins-count t l e = ap (λ (z : List ℤ). getD z 6 (pos 0)) e ∙ count-first t (drop (width * size t) l)
+pub begins-count : (t : Tree) (l : List ℤ) → Begins t l → getD l countPlace (pos 0) ≡ pos (size t)
+begins-count t l e = ap (λ (z : List ℤ). getD z countPlace (pos 0)) e ∙ count-first t (drop (width * size t) l)
 
-pub leaf-begins : (l : List ℤ) (s : Strip) → width ≤ length l → HasStrip l s → getD l 6 (pos 0) ≡ pos 1 → Begins (leaf s) l
+pub leaf-begins : (l : List ℤ) (s : Strip) → width ≤ length l → HasStrip l s → getD l countPlace (pos 0) ≡ pos 1 → Begins (leaf s) l
 leaf-begins l s h k c = front l s 1 h k c
 
 -- ---- a node and its halves
@@ -101,7 +106,7 @@ node-right l s a b e =
     begun (drop (width + width * size a) l) (drop (width * suc (size a + size b)) l) b
     (sym (drop-drop (width * size a) width l) ∙ later (drop width l) (flatten b ++ drop (width * suc (size a + size b)) l) a (after l s a b e))
 
-pub node-begins : (l : List ℤ) (s : Strip) (a b : Tree) → width ≤ length l → HasStrip l s → Begins a (drop width l) → Begins b (drop (width + width * size a) l) → getD l 6 (pos 0) ≡ pos (suc (size a + size b)) →
+pub node-begins : (l : List ℤ) (s : Strip) (a b : Tree) → width ≤ length l → HasStrip l s → Begins a (drop width l) → Begins b (drop (width + width * size a) l) → getD l countPlace (pos 0) ≡ pos (suc (size a + size b)) →
     Begins (node s a b) l
 node-begins l s a b h k p q c =
     let i : width + width * size a + width * size b ≡ width * suc (size a + size b) = omega arith in
