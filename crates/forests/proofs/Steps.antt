@@ -7,6 +7,9 @@ use native.Mathlib.Omega.{arith}
 use borrow.Rule.Slice.PartMut.{putMid, midOf}
 use lib.IntN.{ℤ, pos, natAbs}
 use lib.Dec.{T}
+use mir.Syntax.{w32, w64}
+use mir.Val.{SFits, toZ, ofZ}
+use mir.Facts.{toZ-ofZ, sfits-widen}
 use lib.ListN.{length, take, drop, length-append, length-drop}
 use lib.Seq.{take-at}
 use Rattle.sequences.specs.Parts.{tail-mid, tail-put}
@@ -72,3 +75,10 @@ not-true false h = refl
 pub says-begins : (r : Bool) (ts : List Tree) (s : List ℤ) → Says r (BeginsAll ts s) → r ≡ begins s (flattenAll ts)
 says-begins true ts s h = sym (all-begins ts s h)
 says-begins false ts s h = not-true (begins s (flattenAll ts)) (λ e. h (begins-all ts s e))
+
+-- ---- a grain that is widened
+pub wide-fits : (g : ℤ) → SFits w32 g → SFits w64 (toZ w32 (ofZ w32 g))
+wide-fits g f = rw (toZ-ofZ f) (sfits-widen tt f)
+
+pub wide-is : (g : ℤ) → SFits w32 g → toZ w64 (ofZ w64 (toZ w32 (ofZ w32 g))) ≡ g
+wide-is g f = rw (toZ-ofZ f) (toZ-ofZ (sfits-widen tt f))
