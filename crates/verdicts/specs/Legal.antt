@@ -4,11 +4,11 @@ use mathlib.Core.Bool.{Bool, true, false, cond, _&&_}
 use Prim.Native.Nat.{ℕ, zero, suc, _*_, _≤_}
 use lib.Dec.{T, leb, leb→le}
 use lib.IntN.{ℤ, pos, negsuc, _-ℤ_}
-use lib.Signed.{leZ, leZ-yes}
+use lib.Signed.{leZ}
 use Rattle.integers.specs.Order.{_≼_}
 use Rattle.model.specs.declared.Job.{Job}
 use Rattle.model.specs.Jobs.{between, coordinate, counted, ranged, celled, judge, placed}
-use Rattle.verdicts.specs.Answers.{clash, and-true}
+use Rattle.verdicts.specs.Answers.{clash, le-true, and-true}
 
 -- a check with a number above 0 that gives 0 passed, and so did those after it
 passed : (b : Bool) (k n : ℕ) → cond b n (suc k) ≡ 0 → (b ≡ true) × (n ≡ 0)
@@ -18,16 +18,13 @@ passed false k n e = clash (cc)
 leb-true : {m n : ℕ} → leb m n ≡ true → m ≤ n
 leb-true {m} {n} e = leb→le m n (subst T (sym e) tt)
 
-leZ-true : {a b : ℤ} → leZ a b ≡ true → a ≼ b
-leZ-true e = leZ-yes (subst T (sym e) tt)
-
 pub record Between (lo hi z : ℤ) : Type 0 where
   pub from : lo ≼ z
   pub to : z ≼ hi
 
 pub between-true : {lo hi z : ℤ} → between lo hi z ≡ true → Between lo hi z
 unfolding between
-between-true {lo} {hi} {z} e = let h = and-true (leZ lo z) (leZ z hi) e in record { from = leZ-true (h .0); to = leZ-true (h .1) }
+between-true {lo} {hi} {z} e = let h = and-true (leZ lo z) (leZ z hi) e in record { from = le-true (h .0); to = le-true (h .1) }
 
 abbrev pub Coordinate : ℤ → Type 0
 Coordinate z = Between (negsuc 999999) (pos 1000000) z
@@ -74,6 +71,6 @@ module _ (j : Job) where
         reach-in = between-true (r₅ .0);
         grain-in = between-true (r₆ .0);
         controls = r₆ .1;
-        within-plate = leZ-true (cell .0);
-        few = leZ-true (cell .1);
+        within-plate = le-true (cell .0);
+        few = le-true (cell .1);
       }

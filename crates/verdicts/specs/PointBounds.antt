@@ -1,13 +1,12 @@
 -- The two bounds of a point's squared distance hold of the outline: a point is the cell of half side 0. Assumes nothing.
 use mathlib.Core.Path.{_≡_, refl, sym, _∙_, ap, subst}
-use mathlib.Core.Bool.{Bool, true, false, cond, not}
+use mathlib.Core.Bool.{Bool, true, false, cond}
 use mathlib.Core.List.{List, [], _∷_, _++_}
 use mathlib.Core.Logic.{_⊎_, inl, inr, ⊎-elim}
 use Prim.Native.Nat.{ℕ, zero, suc, _+_, _*_, _≤_}
 use native.Mathlib.Omega.{arith}
-use lib.Dec.{T}
 use lib.IntN.{ℤ, pos, _+ℤ_, _-ℤ_, _*ℤ_}
-use lib.Signed.{ltZ, ltZ-yes, ltZ-no}
+use lib.Signed.{ltZ}
 use Rattle.integers.specs.RingSolver.{name₁, name₃, name₄, reify}
 use Rattle.integers.specs.Order.{_≼_, _≺_, ≼-refl, _⊠_, gap}
 use Rattle.integers.specs.Omega.{zarith}
@@ -24,6 +23,7 @@ use Rattle.model.specs.Exact.{Points, Outline}
 use Rattle.model.specs.Distance.{spot, leaves, leavesAll, lesser, least, lo, hi, Some}
 use Rattle.model.specs.Promises.{Bounds}
 use Rattle.enclosure.specs.Covers.{In, Covers, at-leaf, at-long, at-node, CoversAll, at-end, at-cons}
+use Rattle.verdicts.specs.Answers.{lt-true, lt-false}
 use Rattle.verdicts.specs.Apart.{InCell}
 use Rattle.verdicts.specs.Tests.{at-most-farthest, at-least-closest}
 use Rattle.verdicts.specs.Legal.{legal}
@@ -44,8 +44,8 @@ some-split F (s ∷ ss) us h = ⊎-elim (λ k. inl (inl k)) (λ k. ⊎-elim (λ 
 
 -- ---- the least value: none is smaller, and some strip has it
 lesser-cases : (a b : ℤ) (c : Bool) → ltZ b a ≡ c → (cond c b a ≼ a) × (cond c b a ≼ b)
-lesser-cases a b true e = (weak (ltZ-yes (subst T (sym e) tt)), ≼-refl refl)
-lesser-cases a b false e = (≼-refl refl, ltZ-no (subst (λ c. T (not c)) (sym e) tt))
+lesser-cases a b true e = (weak (lt-true e), ≼-refl refl)
+lesser-cases a b false e = (≼-refl refl, lt-false e)
 
 module _ (f : Strip → ℤ) where
   least-below : (F : Strip → Type 0) (ss : List Strip) → Some F ss → (s : Strip) × F s × (least f ss ≼ f s)

@@ -41,7 +41,7 @@ holds-all : (M n : ℕ) (X Y : ℤ) (i j : ℕ) → i < 2 ^ n → j < 2 ^ n → 
 holds-all M n X Y i j hi hj Q q = record { inX = holds-side X i (2 ^ M) (2 ^ n) (Q .x) hi (q .column); inY = holds-side Y j (2 ^ M) (2 ^ n) (Q .y) hj (q .row) }
 
 -- ---- a column of a square is a column of one of its halves
-shift : (i w h : ℕ) → h ≤ i → w * h + (i - h) * w ≡ i * w
+pub shift : (i w h : ℕ) → h ≤ i → w * h + (i - h) * w ≡ i * w
 shift i w h l = go i (i - h) (omega arith)
   where
     go : (i k : ℕ) → i ≡ h + k → w * h + k * w ≡ i * w
@@ -60,7 +60,7 @@ in-half false X i w h a f b =
         go : (i k : ℕ) → i ≡ h + k → w * h + (k + 1) * w ≡ (i + 1) * w
         go i k e = rw e (omega arith)
 
-half-fits : (b : Bool) (i h : ℕ) → (T b → i < h) → i < 2 * h → halfIndex b i h < h
+pub half-fits : (b : Bool) (i h : ℕ) → (T b → i < h) → i < 2 * h → halfIndex b i h < h
 half-fits true i h f l = f tt
 half-fits false i h f l = omega arith
 

@@ -1,10 +1,9 @@
 -- What the three tests mean for a point in the strip and a point in the cell: passed, and failed. Assumes nothing.
 use mathlib.Core.Path.{_≡_, refl, sym, subst}
-use mathlib.Core.Bool.{true, false, not, _||_}
+use mathlib.Core.Bool.{true, false, _||_}
 use mathlib.Core.Logic.{_⊎_, inl, inr, ⊎-elim}
-use lib.Dec.{T}
 use lib.IntN.{ℤ, pos, negsuc, natAbs, _+ℤ_, _-ℤ_, _*ℤ_, zero-*ℤ}
-use lib.Signed.{leZ, ltZ, leZ-yes, ltZ-yes, ltZ-no, pos-natAbs, yes-nonNeg}
+use lib.Signed.{leZ-yes, pos-natAbs, yes-nonNeg}
 use Rattle.integers.specs.RingSolver.{_^ℤ_, name₂, name₄, reify}
 use Rattle.integers.specs.Order.{_≼_, _≺_, num, num⁺, _⊞_, _⊠_, gap, sq, pos-≼, ≼-refl}
 use Rattle.integers.specs.Omega.{zarith}
@@ -16,7 +15,7 @@ use Rattle.model.specs.Strips.{Strip, fits, short}
 use Rattle.model.specs.Explore.{Cell, farthest, atLeast0, room, closest, farthest², closest², isInside, isAway₁, isAway₂, lengthOf, verdict}
 use Rattle.integers.specs.Within.{Within}
 use Rattle.enclosure.specs.Covers.{In}
-use Rattle.verdicts.specs.Answers.{or-true, or-false, and-true, judge-inside, judge-away, judge-maybe}
+use Rattle.verdicts.specs.Answers.{lt-true, lt-false, le-true, or-true, or-false, and-true, judge-inside, judge-away, judge-maybe}
 use Rattle.verdicts.specs.Apart.{InCell, apartX, apartY, apartD, apart-up, apart-is, spreadX, spreadY}
 use Rattle.verdicts.specs.Distances.{reach-bound, gap-bound, most-squared, least-squared, below, above, across-far, band-upper, band-lower, grown-reach, grown-gap}
 use Rattle.verdicts.specs.Roots.{root-reaches}
@@ -32,16 +31,6 @@ halfFine n = record { top = n; low = pos 32; up = num⁺ 31 }
 -- for a cell of half side s and a grain T, both coordinates of a short strip and of the cell spread over u = 2 s + 32 T; three halves of it are 16 E
 abbrev pub spill : ℤ → ℤ → ℤ
 spill s T = pos 2 *ℤ s +ℤ pos 32 *ℤ T
-
--- tests as facts
-lt-true : {a b : ℤ} → ltZ a b ≡ true → a ≺ b
-lt-true e = ltZ-yes (subst T (sym e) tt)
-
-lt-false : {a b : ℤ} → ltZ a b ≡ false → b ≼ a
-lt-false e = ltZ-no (subst (λ b. T (not b)) (sym e) tt)
-
-le-true : {a b : ℤ} → leZ a b ≡ true → a ≼ b
-le-true e = leZ-yes (subst T (sym e) tt)
 
 -- 0 if negative
 pub at0-nonneg : (z : ℤ) → pos 0 ≼ atLeast0 z
