@@ -1,0 +1,4 @@
+-- Laws of the job sheet's text, one file a concern.
+pub mod Tests
+pub mod Numbers
+pub mod Forms
