@@ -51,10 +51,10 @@ numberThen fs acc r = given r (λ v t. readForm fs (acc ++ (v ∷ [])) t) none
 abbrev pub byteThen : List ℕ → List ℤ → Got ℕ → Got (List ℤ)
 byteThen fs acc r = given r (λ b t. readForm fs acc t) none
 
-abbrev piece : Bool → List ℕ → ℕ → List ℤ → List ℕ → Got (List ℤ)
+abbrev pub piece : Bool → List ℕ → ℕ → List ℤ → List ℕ → Got (List ℤ)
 piece t fs f acc s = elim t [ true ↦ numberThen fs acc (number s) | false ↦ byteThen fs acc (byte f s) ]
 
-abbrev put : Bool → List ℕ → ℕ → List ℤ → List ℕ
+abbrev pub put : Bool → List ℕ → ℕ → List ℤ → List ℕ
 put t fs f vs = elim t [ true ↦ text (getD vs 0 (pos 0)) ++ writeForm fs (drop 1 vs) | false ↦ f ∷ writeForm fs vs ]
 
 -- ---- what was written is read
@@ -76,9 +76,13 @@ number-step fs gs acc v vs rest a h =
     ∙ ap (numberThen fs acc) (number-text v (r .0) (r .1) a (r .2))
     ∙ ap (readForm fs (acc ++ (v ∷ []))) (sym (r .3))
 
-pub byte-same : (f : ℕ) (s : List ℕ) → byte f (f ∷ s) ≡ got f s
+pub byte-same : (f g : ℕ) (s : List ℕ) → eqb g f ≡ true → byte f (g ∷ s) ≡ got g s
 unfolding byte
-byte-same f s = yes (eqb f f) _ _ (eq-eqb f f refl)
+byte-same f g s q = yes (eqb g f) _ _ q
+
+pub byte-other : (f g : ℕ) (s : List ℕ) → eqb g f ≡ false → byte f (g ∷ s) ≡ none
+unfolding byte
+byte-other f g s q = no (eqb g f) _ _ q
 
 abbrev Reads : List ℕ → Type 0
 Reads fs = (acc vs : List ℤ) (rest : List ℕ) → AllSmall vs → marks fs ≤ length vs → readForm fs acc (writeForm fs vs ++ rest) ≡ got (acc ++ take (marks fs) vs) rest
@@ -90,7 +94,7 @@ reads-piece f fs true ih h acc (v ∷ vs) rest a l =
     number-step fs fs acc v vs rest (a 0) h
     ∙ ih (acc ++ (v ∷ [])) vs rest (λ i. a (suc i)) (omega arith)
     ∙ ap (λ u. got u rest) (append-assoc acc (v ∷ []) (take (marks fs) vs))
-reads-piece f fs false ih h acc vs rest a l = ap (byteThen fs acc) (byte-same f (writeForm fs vs ++ rest)) ∙ ih acc vs rest a l
+reads-piece f fs false ih h acc vs rest a l = ap (byteThen fs acc) (byte-same f f (writeForm fs vs ++ rest) (eq-eqb f f refl)) ∙ ih acc vs rest a l
 
 reads : (fs : List ℕ) → sound fs ≡ true → Reads fs
 unfolding readForm writeForm marks sound
