@@ -5,3 +5,9 @@ pub mod Forms
 pub mod Layouts
 pub mod Sheets
 pub mod Optional
+pub mod Jobs
+pub mod Places
+pub mod Code
+pub mod RoundTrips
+-- an example of an extension
+pub mod Later
