@@ -94,7 +94,7 @@ follow-none F (section G (suc lo) hi ∷ ss) ([] ∷ gs) rest h f = absurd (omeg
 follow-none F (section G (suc lo) hi ∷ ss) ((vs ∷ ls) ∷ gs) rest h f = first-none F G vs ls (writeAll ss gs) rest h (f .2)
 
 -- ---- a step of the readers, by what reading a line or a section gave
-abbrev lineThen : List ℕ → ℕ → Lines → List ℕ → Got Line → Got Lines
+abbrev pub lineThen : List ℕ → ℕ → Lines → List ℕ → Got Line → Got Lines
 lineThen F k ls s r = given r (λ vs t. readLines F k (ls ++ (vs ∷ [])) t) (got ls s)
 
 abbrev sectionThen : ℕ → List Section → List Lines → Got Lines → Got (List Lines)
