@@ -1,27 +1,21 @@
 -- What a job that is not refused has: numbers in range, and so trees whose strips are sized. Assumes nothing.
-use mathlib.Core.Path.{_≡_, refl, sym, ap, _∙_, subst}
-use mathlib.Core.Bool.{Bool, true, false, cond, _&&_}
+use mathlib.Core.Path.{_≡_, sym, subst}
+use mathlib.Core.Bool.{true}
 use mathlib.Core.List.{List, [], _∷_}
 use Prim.Native.Nat.{ℕ, zero, suc, _+_, _*_, _≤_, _<_}
 use native.Mathlib.Omega.{arith}
-use lib.Dec.{T, leb, leb→le, eqb→eq}
+use lib.Dec.{T, eqb→eq}
 use lib.IntN.{ℤ, pos, negsuc, natAbs}
 use lib.Signed.{leZ, nonNeg}
 use lib.ListN.{getD}
 use Rattle.model.specs.declared.Job.{Job}
-use Rattle.model.specs.Jobs.{between, coordinate, isZero, placed, counted, ranged, celled, judge, Cubic, Edge, cubicAt, edgeAt, edgesFrom, outline}
+use Rattle.model.specs.Jobs.{between, coordinate, isZero, placed, counted, ranged, judge, Cubic, Edge, cubicAt, edgeAt, edgesFrom, outline}
 use Rattle.model.specs.Store.{forest}
+use Rattle.ranges.specs.Legal.{both, le-of, passed, is-counted, is-ranged}
 use Rattle.ranges.specs.Sizes.{ControlSized, EachSized}
 use Rattle.ranges.specs.Strips.{EdgeSized, EdgesSized, trees-sized}
 
--- ---- tests that pass
-both : (a b : Bool) → (a && b) ≡ true → (a ≡ true) × (b ≡ true)
-both true b e = (refl, e)
-both false b e = (e, cc)
-
-le-of : (m n : ℕ) → leb m n ≡ true → m ≤ n
-le-of m n e = leb→le m n (subst T (sym e) tt)
-
+-- ---- what passing a test says of a size
 pub coordinate-in : (z : ℤ) → coordinate z ≡ true → natAbs z ≤ 1000000
 unfolding coordinate between
 coordinate-in (pos n) e = le-of n 1000000 (both (leZ (negsuc 999999) (pos n)) (leZ (pos n) (pos 1000000)) e .1)
@@ -76,32 +70,21 @@ pub record JobSized (j : Job) : Type 0 where
   pub grain-in-range : GrainSized (j .grain)
 
 pub ranged-sized : (j : Job) → counted j ≡ true → ranged j ≡ true → JobSized j
-unfolding counted ranged
 ranged-sized j c r =
-    let n = both (leb 1 (j .count)) (leb (j .count) 64) c in
-    let x = both (coordinate (j .x)) _ r in
-    let y = both (coordinate (j .y)) _ (x .1) in
-    let p = both (between (pos 0) (pos 20) (j .n)) _ (y .1) in
-    let m = both (between (pos 0) (pos 20) (j .m)) _ (p .1) in
-    let s = both (between (pos 1) (pos 1000000) (j .reach)) _ (m .1) in
-    let g = both (between (pos 1) (pos 100000) (j .grain)) (placed (8 * j .count) (j .places)) (s .1) in
+    let n = is-counted j c in
+    let h = is-ranged j r in
     record {
-      some-edge = le-of 1 (j .count) (n .0);
-      few-edges = le-of (j .count) 64 (n .1);
-      places-in = record { within = placed-in (8 * j .count) (j .places) (g .1) };
-      grain-in-range = grain-in (j .grain) (g .0);
+      some-edge = n .0;
+      few-edges = n .1;
+      places-in = record { within = placed-in (8 * j .count) (j .places) (h .places-in) };
+      grain-in-range = grain-in (j .grain) (h .grain-in);
     }
-
--- where each check passes the number is 0, and only there
-passes : (b : Bool) (n k : ℕ) → cond b n (suc k) ≡ 0 → (b ≡ true) × (n ≡ 0)
-passes true n k e = (refl, e)
-passes false n k e = absurd (omega arith)
 
 pub judge-sized : (j : Job) → judge j ≡ 0 → JobSized j
 unfolding judge
 judge-sized j e =
-    let c = passes (counted j) (cond (ranged j) (cond (celled j) 0 4) 3) 1 e in
-    let r = passes (ranged j) (cond (celled j) 0 4) 2 (c .1) in
+    let c = passed (counted j) _ 1 e in
+    let r = passed (ranged j) _ 2 (c .1) in
     ranged-sized j (c .0) (r .0)
 
 pub forest-sized : (j : Job) → JobSized j → EachSized (forest j)

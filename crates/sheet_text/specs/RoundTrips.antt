@@ -162,14 +162,22 @@ lines-again (a ∷ b ∷ c ∷ d ∷ g ∷ es ∷ e ∷ []) f l =
       g,
       f₄ .1,
       f₄ .2,
-      (a, b, c, d, es, e, refl,
-      ap₂ _∷_ (line-back jobForm 0 a job-marks (f .0) (f .1) (f .2))
-      (ap₂ _∷_ (line-back plateForm 3 b plate-marks (f₁ .0) (f₁ .1) (f₁ .2))
-      (ap₂ _∷_ (line-back cellForm 1 c cell-marks (f₂ .0) (f₂ .1) (f₂ .2))
-      (ap₂ _∷_ (line-back reachForm 1 d reach-marks (f₃ .0) (f₃ .1) (f₃ .2))
-      (ap (λ u. stated defaultGrain (getD (joined g) 0 defaultGrain) ∷ u)
-      (ap₂ _∷_ (edges-again es (f₅ .2) l)
-      (ap (λ u. u ∷ []) (line-back endForm 0 e end-marks (f₆ .0) (f₆ .1) (f₆ .2))))))))),
+      (
+        a,
+        b,
+        c,
+        d,
+        es,
+        e,
+        refl,
+        ap₂ _∷_ (line-back jobForm 0 a job-marks (f .0) (f .1) (f .2))
+            (ap₂ _∷_ (line-back plateForm 3 b plate-marks (f₁ .0) (f₁ .1) (f₁ .2))
+            (ap₂ _∷_ (line-back cellForm 1 c cell-marks (f₂ .0) (f₂ .1) (f₂ .2))
+            (ap₂ _∷_ (line-back reachForm 1 d reach-marks (f₃ .0) (f₃ .1) (f₃ .2))
+            (ap (λ u. stated defaultGrain (getD (joined g) 0 defaultGrain) ∷ u)
+            (ap₂ _∷_ (edges-again es (f₅ .2) l)
+            (ap (λ u. u ∷ []) (line-back endForm 0 e end-marks (f₆ .0) (f₆ .1) (f₆ .2)))))))),
+      ),
     )
 
 -- what stands before a section and after it

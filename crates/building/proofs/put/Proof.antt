@@ -45,13 +45,13 @@ returns c =
     let s = c .before .before .before .before .before .before .before .before .before .before .before .before .before .before .before .before in
     c .before .put-node .ensures
     ∙ seven (drop 7 (s .args .s .now))
-      (cell (c .before .before .before .before .before .before .before .before .before .before .before .before .before .before .narrow .result) (s .args .x .centre) (c .before .before .before .before .before .before .before .before .before .before .before .before .before .before .narrow .ok) (c .before .before .before .before .before .before .before .before .before .before .before .before .before .before .narrow .ensures) (omega (arith, s .pre .1 .centre-size)))
-      (cell (c .before .before .before .before .before .before .before .before .before .before .before .before .narrow2 .result) (s .args .y .centre) (c .before .before .before .before .before .before .before .before .before .before .before .before .narrow2 .ok) (c .before .before .before .before .before .before .before .before .before .before .before .before .narrow2 .ensures) (omega (arith, s .pre .2 .centre-size)))
-      (cell (c .before .before .before .before .before .before .before .before .before .before .narrow3 .result) (s .args .x .axis) (c .before .before .before .before .before .before .before .before .before .before .narrow3 .ok) (c .before .before .before .before .before .before .before .before .before .before .narrow3 .ensures) (omega (arith, s .pre .1 .axis-size)))
-      (cell (c .before .before .before .before .before .before .before .before .narrow4 .result) (s .args .y .axis) (c .before .before .before .before .before .before .before .before .narrow4 .ok) (c .before .before .before .before .before .before .before .before .narrow4 .ensures) (omega (arith, s .pre .2 .axis-size)))
-      (cell (c .before .before .before .before .before .before .narrow5 .result) (s .args .x .half) (c .before .before .before .before .before .before .narrow5 .ok) (c .before .before .before .before .before .before .narrow5 .ensures) (omega (arith, s .pre .1 .box-size)))
-      (cell (c .before .before .before .before .narrow6 .result) (s .args .y .half) (c .before .before .before .before .narrow6 .ok) (c .before .before .before .before .narrow6 .ensures) (omega (arith, s .pre .2 .box-size)))
-      (read32 (c .before .before .before .narrow-count .result) (c .before .before .before .narrow-count .ok) ∙ c .before .before .before .narrow-count .ensures)
+    (cell (c .before .before .before .before .before .before .before .before .before .before .before .before .before .before .narrow .result) (s .args .x .centre) (c .before .before .before .before .before .before .before .before .before .before .before .before .before .before .narrow .ok) (c .before .before .before .before .before .before .before .before .before .before .before .before .before .before .narrow .ensures) (omega (arith, s .pre .1 .centre-size)))
+    (cell (c .before .before .before .before .before .before .before .before .before .before .before .before .narrow2 .result) (s .args .y .centre) (c .before .before .before .before .before .before .before .before .before .before .before .before .narrow2 .ok) (c .before .before .before .before .before .before .before .before .before .before .before .before .narrow2 .ensures) (omega (arith, s .pre .2 .centre-size)))
+    (cell (c .before .before .before .before .before .before .before .before .before .before .narrow3 .result) (s .args .x .axis) (c .before .before .before .before .before .before .before .before .before .before .narrow3 .ok) (c .before .before .before .before .before .before .before .before .before .before .narrow3 .ensures) (omega (arith, s .pre .1 .axis-size)))
+    (cell (c .before .before .before .before .before .before .before .before .narrow4 .result) (s .args .y .axis) (c .before .before .before .before .before .before .before .before .narrow4 .ok) (c .before .before .before .before .before .before .before .before .narrow4 .ensures) (omega (arith, s .pre .2 .axis-size)))
+    (cell (c .before .before .before .before .before .before .narrow5 .result) (s .args .x .half) (c .before .before .before .before .before .before .narrow5 .ok) (c .before .before .before .before .before .before .narrow5 .ensures) (omega (arith, s .pre .1 .box-size)))
+    (cell (c .before .before .before .before .narrow6 .result) (s .args .y .half) (c .before .before .before .before .narrow6 .ok) (c .before .before .before .before .narrow6 .ensures) (omega (arith, s .pre .2 .box-size)))
+    (read32 (c .before .before .before .narrow-count .result) (c .before .before .before .narrow-count .ok) ∙ c .before .before .before .narrow-count .ensures)
 
 pub put-spec : {M : Type 1} → statement M
 put-spec =

@@ -21,9 +21,9 @@ extent-of-requires-2 c κs = search needs
 is-short-requires : tie.Need-is-short-requires
 is-short-requires c κs =
     let s = c .before .before in
-    let p = s .pre in
-    ( subst SideSized (sym (c .before .extent-of .ensures)) (by-sized (form (s .args .cx)) (s .args .n) (s .args .m) (p .0) (p .2) (p .4))
-    , subst SideSized (sym (c .extent-of2 .ensures)) (by-sized (form (s .args .cy)) (s .args .n) (s .args .m) (p .1) (p .2) (p .4))
+    let p = s .pre in (
+      subst SideSized (sym (c .before .extent-of .ensures)) (by-sized (form (s .args .cx)) (s .args .n) (s .args .m) (p .0) (p .2) (p .4)),
+      subst SideSized (sym (c .extent-of2 .ensures)) (by-sized (form (s .args .cy)) (s .args .n) (s .args .m) (p .1) (p .2) (p .4)),
     )
 
 -- src/lib.rt:25:1
