@@ -14,3 +14,5 @@ expect() {
 }
 
 expect sheet_cases write
+expect map_cases map
+expect point_cases probe
