@@ -15,6 +15,7 @@ mod job;
 pub mod listing;
 mod plate;
 mod point;
+pub mod probe;
 mod refusal;
 mod sheet;
 pub mod strips;

@@ -1,7 +1,7 @@
 //! The command-line program: document 01's program as `map`, and three more
 //! commands for comparing it with another implementation.
 
-use clearance_reference::{judge_with_spot, listing, map, point, read, trees, write};
+use clearance_reference::{judge_with_spot, listing, map, point, probe, read, trees, write};
 use clearance_reference::{Refusal, SHEET_LIMIT};
 use std::io::{self, Read, Write};
 use std::process::ExitCode;
@@ -19,6 +19,7 @@ Reads a job sheet from standard input.
   store      write the trees, a node a line, for any number of nodes
   point X Y  write (point LO HI EDGE), fine units squared
   write      write the sheet back
+  probe      write the answers to a fixed battery of points and stores
   --help     write this text
 
 A refusal is written as (refused NUMBER).
@@ -29,6 +30,7 @@ enum Command {
     Store,
     Point(i32, i32),
     Write,
+    Probe,
 }
 
 fn command(arguments: &[&str]) -> Option<Command> {
@@ -37,6 +39,7 @@ fn command(arguments: &[&str]) -> Option<Command> {
         ["store"] => Some(Command::Store),
         ["point", x, y] => Some(Command::Point(x.parse().ok()?, y.parse().ok()?)),
         ["write"] => Some(Command::Write),
+        ["probe"] => Some(Command::Probe),
         _ => None,
     }
 }
@@ -67,6 +70,7 @@ fn answer(command: &Command, sheet: &[u8]) -> Result<Vec<u8>, Refusal> {
             let length = write(&job, &mut lent)?;
             Ok(lent[..length].to_vec())
         }
+        Command::Probe => Ok(probe::battery(&job).into()),
     }
 }
 

@@ -1,2 +1,7 @@
 -- How large the numbers of a job's strips can be: what 64-bit code over them may count on.
+pub mod Legal
 pub mod Sizes
+pub mod Bounds
+pub mod PowerForm
+pub mod Strips
+pub mod Jobs

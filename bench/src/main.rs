@@ -1,0 +1,166 @@
+//! Prints in one run how fast the implementations are beside each other. Speed
+//! is measured here and asserted nowhere.
+
+mod growth;
+mod makers;
+mod tables;
+mod timing;
+mod whole;
+
+use clearance_bench::{same_tricks, sampling};
+use clearance_reference::{listing, read};
+use makers::{Case, Maker};
+use std::fs;
+use std::path::{Path, PathBuf};
+use std::process::ExitCode;
+use std::time::Duration;
+
+const USAGE: &str = "\
+usage: clearance_bench [--program PATH] [--examples FOLDER] [--seconds S] [--steps K]
+
+  --program PATH     the proved program, for the row of whole programs
+  --examples FOLDER  the job sheets to time (../examples)
+  --seconds S        time for each implementation in each line of a table (0.1)
+  --steps K          steps an edge of the sampling (32)
+  --as NAME < SHEET  be one whole program: 'same tricks', reference or sampling
+  --help             write this text
+
+Exit status: 0 done, 1 an answer is wrong or a file cannot be used, 2 bad usage.
+";
+
+const NOTES: &str = "
+Each time is the median of 7 to 1,001 calls that take turns, less the clock's own: processor time from 0.1 ms on where
+the system tells it, else the wall clock. Store, map and sheet are cleared before each call, outside the clock.
+build    Every implementation draws the map of a plate of one cell, which is nearly all building: the proved library
+         has no entry for the trees alone. The sampling makes its polyline.
+point    Store and polyline are ready. All but the sampling check that the store holds the job's trees.
+program  A process from its start to the end of its output, on the wall clock.
+";
+
+struct Asked {
+    program: Option<PathBuf>,
+    examples: PathBuf,
+    budget: Duration,
+    steps: usize,
+    whole: Option<Maker>,
+    help: bool,
+}
+
+/// What the arguments ask for, or `None` for bad usage.
+fn asked(mut words: impl Iterator<Item = String>) -> Option<Asked> {
+    let mut asked = Asked {
+        program: None,
+        examples: Path::new(env!("CARGO_MANIFEST_DIR")).join("../examples"),
+        budget: Duration::from_millis(100),
+        steps: sampling::STEPS,
+        whole: None,
+        help: false,
+    };
+    while let Some(word) = words.next() {
+        match word.as_str() {
+            "--program" => asked.program = Some(words.next()?.into()),
+            "--examples" => asked.examples = words.next()?.into(),
+            "--seconds" => {
+                asked.budget = Duration::try_from_secs_f64(words.next()?.parse().ok()?).ok()?;
+            }
+            "--steps" => {
+                asked.steps = words
+                    .next()?
+                    .parse()
+                    .ok()
+                    .filter(|steps| (1..=4_096).contains(steps))?;
+            }
+            "--as" => {
+                asked.whole = Some(Maker::named(&words.next()?).filter(|&m| m != Maker::Proved)?);
+            }
+            "--help" => asked.help = true,
+            _ => return None,
+        }
+    }
+    Some(asked)
+}
+
+/// The example sheets in the order of their names.
+fn cases(asked: &Asked) -> Result<Vec<Case>, String> {
+    let folder = asked.examples.display();
+    let entries = fs::read_dir(&asked.examples).map_err(|error| format!("{folder}: {error}"))?;
+    let mut paths: Vec<PathBuf> = entries.flatten().map(|entry| entry.path()).collect();
+    paths.retain(|path| path.extension().is_some_and(|end| end == "sheet"));
+    paths.sort();
+    if paths.is_empty() {
+        return Err(format!("{folder}: no sheets"));
+    }
+    paths
+        .iter()
+        .map(|path| {
+            let bytes = fs::read(path).map_err(|error| format!("{}: {error}", path.display()))?;
+            let job = read(&bytes).map_err(|refusal| format!("{}: {refusal}", path.display()))?;
+            let name = path.file_stem().unwrap_or_default().to_string_lossy();
+            let mut case = Case::of(&name, job)?;
+            case.program = asked.program.clone();
+            case.steps = asked.steps;
+            Ok(case)
+        })
+        .collect()
+}
+
+/// Answers must be the same before it makes sense to time them.
+fn check(case: &Case) -> Result<(), String> {
+    let wrong = |who: &str| Err(format!("{}: {who} gives another answer", case.name));
+    let mut store = vec![0; case.store.len()];
+    let mut cells = vec![0; case.cells.len()];
+    let nodes = same_tricks::map(&case.job, &mut store, &mut cells);
+    if nodes != Ok(case.nodes) || store != case.store || cells != case.cells {
+        return wrong("same tricks");
+    }
+    #[cfg(feature = "proved")]
+    {
+        use clearance_bench::calls;
+        let mut store = vec![0; case.store.len()];
+        let mut cells = vec![0; case.cells.len()];
+        let answer = calls::map(&calls::numbers(&case.job), &mut store, &mut cells);
+        if answer != (0, case.nodes) || store != case.store || cells != case.cells {
+            return wrong("proved");
+        }
+    }
+    if let Some(program) = &case.program {
+        let text = whole::spawn(program, &[], &case.sheet)
+            .map_err(|error| format!("{}: {error}", program.display()))?;
+        if text != listing::map(&case.cells).as_bytes() {
+            return wrong("the program");
+        }
+    }
+    Ok(())
+}
+
+fn run(asked: &Asked) -> Result<(), String> {
+    let cases = cases(asked)?;
+    cases.iter().try_for_each(check)?;
+    let linked = cfg!(feature = "proved");
+    tables::print_ratios(&cases, linked || asked.program.is_some(), asked.budget);
+    print!("{NOTES}");
+    tables::print_wrong_cells(&cases);
+    tables::print_growth(linked, asked.budget)
+}
+
+fn main() -> ExitCode {
+    let Some(asked) = asked(std::env::args().skip(1)) else {
+        eprint!("{USAGE}");
+        return ExitCode::from(2);
+    };
+    let done = if asked.help {
+        print!("{USAGE}");
+        Ok(())
+    } else if let Some(maker) = asked.whole {
+        whole::run_as(maker, asked.steps).map_err(|error| error.to_string())
+    } else {
+        run(&asked)
+    };
+    match done {
+        Ok(()) => ExitCode::SUCCESS,
+        Err(message) => {
+            eprintln!("clearance_bench: {message}");
+            ExitCode::FAILURE
+        }
+    }
+}

@@ -1,0 +1,78 @@
+//! What a tree says of a cell.
+
+use super::trees::NUMBERS_A_NODE;
+
+/// In the order of joining: the greater of two answers holds.
+#[derive(Clone, Copy, PartialEq, Eq, PartialOrd, Ord)]
+pub enum Answer {
+    Away,
+    Maybe,
+    Inside,
+}
+
+/// Above every root of a legal job's axis, and its square fits 64 bits.
+const ROOT_CAP: i64 = 1 << 30;
+
+/// Whether cross > r·L, with L the least whole number whose square is at least
+/// `square`. That is L ≤ k with k = (cross - 1) / r, so square ≤ k². No L is
+/// below `low`, which settles most cases without the division.
+fn is_beyond(cross: i64, r: i64, low: i64, square: i64) -> bool {
+    if cross <= r * low {
+        return false;
+    }
+    let k = ((cross - 1) / r).min(ROOT_CAP);
+    square <= k * k
+}
+
+/// What one node says by itself of the cell at (x, y) with half side s.
+fn own_answer(node: &[i32; NUMBERS_A_NODE], x: i64, y: i64, s: i64, r: i64) -> Answer {
+    let [zx, zy, p, q, bx, by, _] = node.map(i64::from);
+    let (wx, wy) = (x - zx, y - zy);
+    let (a, b) = (bx + s, by + s);
+    let (far_x, far_y) = (wx.abs() + p.abs() + a, wy.abs() + q.abs() + b);
+    if far_x * far_x + far_y * far_y < r * r {
+        return Answer::Inside;
+    }
+    let gap_x = (wx.abs() - p.abs() - a).max(0);
+    let gap_y = (wy.abs() - q.abs() - b).max(0);
+    if gap_x * gap_x + gap_y * gap_y > r * r {
+        return Answer::Away;
+    }
+    let cross = (wx * q - wy * p).abs() - a * q.abs() - b * p.abs();
+    if is_beyond(cross, r, p.abs().max(q.abs()), p * p + q * q) {
+        return Answer::Away;
+    }
+    Answer::Maybe
+}
+
+/// What the tree in `part` says. An answer of `enough` settles it.
+pub fn search(part: &[i32], x: i64, y: i64, s: i64, r: i64, enough: Answer) -> Answer {
+    let Some((node, halves)) = part.split_first_chunk() else {
+        return Answer::Away;
+    };
+    let here = own_answer(node, x, y, s, r);
+    if here != Answer::Maybe || halves.is_empty() {
+        return here;
+    }
+    let (left, right) = halves.split_at(tree_length(halves, 0));
+    let answer = search(left, x, y, s, r, enough);
+    if answer >= enough {
+        return answer;
+    }
+    answer.max(search(right, x, y, s, r, enough))
+}
+
+/// The numbers of the tree that starts here.
+pub fn tree_length(store: &[i32], start: usize) -> usize {
+    NUMBERS_A_NODE * store[start + NUMBERS_A_NODE - 1] as usize
+}
+
+/// The answer after which a tree need not be searched further: where the cell
+/// alone reaches too far, no node can be inside.
+pub fn enough_for(s: i64, r: i64) -> Answer {
+    if 2 * s * s >= r * r {
+        Answer::Maybe
+    } else {
+        Answer::Inside
+    }
+}

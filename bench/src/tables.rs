@@ -1,0 +1,156 @@
+//! The tables that are printed.
+
+use crate::growth;
+use crate::makers::{Case, Maker, Row};
+use crate::timing::medians;
+use clearance_bench::exact::wrong_cells;
+use clearance_bench::sampling;
+use std::time::Duration;
+
+/// Median times in microseconds, in the order of `Maker::ALL`.
+type Times = [Option<f64>; 4];
+
+/// The ratios that are shown, the proved library's first.
+const RATIOS: [(Maker, Maker); 5] = [
+    (Maker::Proved, Maker::SameTricks),
+    (Maker::Proved, Maker::Reference),
+    (Maker::Proved, Maker::Sampling),
+    (Maker::SameTricks, Maker::Reference),
+    (Maker::Sampling, Maker::Reference),
+];
+
+fn times(case: &Case, row: Row, budget: Duration) -> Times {
+    let mut calls = Vec::new();
+    let mut places = Vec::new();
+    for (place, maker) in Maker::ALL.into_iter().enumerate() {
+        if let Some(call) = case.call(maker, row) {
+            calls.push(call);
+            places.push(place);
+        }
+    }
+    let mut times = [None; 4];
+    for (place, time) in places.into_iter().zip(medians(&mut calls, budget)) {
+        times[place] = Some(time);
+    }
+    times
+}
+
+fn ratio(times: &Times, (one, other): (Maker, Maker)) -> Option<f64> {
+    Some(times[one as usize]? / times[other as usize]?)
+}
+
+/// The ratios that any of these rows has.
+fn shown_ratios(proved: bool) -> Vec<(Maker, Maker)> {
+    let wanted = |(one, _): &(Maker, Maker)| proved || *one != Maker::Proved;
+    RATIOS.into_iter().filter(wanted).collect()
+}
+
+/// Ratios of every row for every case, then the geometric means.
+pub fn print_ratios(cases: &[Case], proved: bool, budget: Duration) {
+    let ratios = shown_ratios(proved);
+    println!("Ratios of median times; below 1 the first is faster.\n");
+    print!("{:8} {:10} {:>14}", "row", "example", "same tricks µs");
+    for (one, other) in &ratios {
+        print!(" {:>24}", format!("{} / {}", one.name(), other.name()));
+    }
+    println!();
+    for row in Row::ALL {
+        let mut all = Vec::new();
+        for case in cases {
+            let times = times(case, row, budget);
+            print!("{:8} {:10}", row.name(), case.name);
+            print!(" {:14.2}", times[Maker::SameTricks as usize].unwrap_or(0.0));
+            print_line(ratios.iter().map(|&pair| ratio(&times, pair)));
+            all.push(times);
+        }
+        print!("{:8} {:10} {:14}", row.name(), "MEAN", "");
+        print_line(ratios.iter().map(|&pair| geometric_mean(&all, pair)));
+    }
+}
+
+fn print_line(numbers: impl Iterator<Item = Option<f64>>) {
+    for number in numbers {
+        match number {
+            Some(number) => print!(" {number:24.3}"),
+            None => print!(" {:>24}", "-"),
+        }
+    }
+    println!();
+}
+
+fn geometric_mean(all: &[Times], pair: (Maker, Maker)) -> Option<f64> {
+    let logs: Option<Vec<f64>> = all
+        .iter()
+        .map(|times| ratio(times, pair).map(f64::ln))
+        .collect();
+    let logs = logs?;
+    Some((logs.iter().sum::<f64>() / logs.len() as f64).exp())
+}
+
+/// The letters of the sampling beside those of the map, and its mistakes.
+pub fn print_wrong_cells(cases: &[Case]) {
+    println!("\nCells that the sampling calls clear or inside wrongly, beside the map. It strays");
+    println!("by so many hundredths of a millimetre from the outline.\n");
+    print!(
+        "{:10} {:>7} {:>6} {:>8}",
+        "example", "cells", "steps", "strays"
+    );
+    print!(
+        " {:>18} {:>11} {:>12}",
+        "sampling C/I/D", "wrong clear", "wrong inside"
+    );
+    println!(" {:>18} {:>9}", "map C/I/D", "map wrong");
+    for case in cases {
+        let (job, steps) = (&case.job, case.steps);
+        let sampled = sampling::map(job, steps);
+        let wrong = wrong_cells(job, &sampled);
+        let map_wrong = wrong_cells(job, &case.cells);
+        let strays = sampling::straying(job, steps);
+        print!(
+            "{:10} {:7} {steps:6} {strays:8.2}",
+            case.name,
+            sampled.len()
+        );
+        print!(
+            " {:>18} {:11} {:12}",
+            letter_counts(&sampled),
+            wrong.clear,
+            wrong.inside
+        );
+        let both = map_wrong.clear + map_wrong.inside;
+        println!(" {:>18} {both:9}", letter_counts(&case.cells));
+    }
+}
+
+fn letter_counts(letters: &[u8]) -> String {
+    let counts = [b'C', b'I', b'D'].map(|letter| letters.iter().filter(|&&l| l == letter).count());
+    format!("{}/{}/{}", counts[0], counts[1], counts[2])
+}
+
+/// How the map's time grows with edges, cells and nodes.
+pub fn print_growth(proved: bool, budget: Duration) -> Result<(), String> {
+    println!("\nTime of the map in µs as one size grows.\n");
+    print!(
+        "{:>6} {:>7} {:>6} {:>7}",
+        "edges", "cells", "grain", "nodes"
+    );
+    let makers = &Maker::ALL[usize::from(!proved)..];
+    for maker in makers {
+        print!(" {:>12}", maker.name());
+    }
+    println!();
+    for (title, jobs) in growth::series() {
+        println!("with {title}:");
+        for job in jobs {
+            let case = Case::of(title, job)?;
+            let (count, cells, grain) = (case.job.count, case.cells.len(), case.job.grain);
+            print!("{count:6} {cells:7} {grain:6} {:7}", case.nodes);
+            let times = times(&case, Row::Map, budget);
+            for &maker in makers {
+                print!(" {:12.1}", times[maker as usize].unwrap_or(f64::NAN));
+            }
+            println!();
+        }
+    }
+    Ok(())
+}

@@ -1,0 +1,116 @@
+//! The four calls. References make the pointers right and Rust keeps what is
+//! written apart from all else, so there is nothing left to check.
+
+use crate::ffi;
+use crate::job::Job;
+use crate::nearest::Nearest;
+use crate::refusal::Refusal;
+
+/// Reads a job sheet. Refuses with 1 to 4.
+///
+/// ```
+/// use clearance::{read, Refusal};
+///
+/// let sheet = "(job\n(plate 0 0 6)\n(cell 2)\n(reach 9)\n(edge (0 0) (9 0) (9 9) (0 9))\n)\n";
+/// let job = read(sheet.as_bytes())?;
+/// assert_eq!((job.n, job.m, job.reach, job.grain, job.count), (6, 2, 9, 10, 1));
+/// assert_eq!(read(&sheet.as_bytes()[1..]), Err(Refusal::Form));
+/// # Ok::<(), Refusal>(())
+/// ```
+pub fn read(sheet: &[u8]) -> Result<Job, Refusal> {
+    let mut job = Job::ZERO;
+    // SAFETY: a slice and a job of its own, see the head of this file.
+    let number = unsafe { ffi::clearance_read(sheet.as_ptr(), sheet.len(), job.as_mut_ptr()) };
+    Refusal::check(number)?;
+    Ok(job)
+}
+
+/// Writes a job's sheet to the start of the lent bytes and gives its length;
+/// [`SHEET_WRITTEN_MOST`](crate::SHEET_WRITTEN_MOST) are always enough. Refuses
+/// with 2, 3, 4 or 7.
+///
+/// ```
+/// use clearance::{read, write, Refusal};
+///
+/// let sheet = b"(job\n(plate 0 0 6)\n(cell 2)\n(reach 9)\n(edge (0 0) (9 0) (9 9) (0 9))\n)\n";
+/// let job = read(sheet)?;
+/// let mut lent = [0; 100];
+/// let length = write(&job, &mut lent)?;
+/// assert_eq!(&lent[..length], sheet);
+/// assert_eq!(write(&job, &mut lent[..length - 1]), Err(Refusal::Space));
+/// # Ok::<(), Refusal>(())
+/// ```
+pub fn write(job: &Job, out: &mut [u8]) -> Result<usize, Refusal> {
+    let mut bytes = 0;
+    // SAFETY: a job, a slice and a number of its own, see the head of this file.
+    let number =
+        unsafe { ffi::clearance_write(job.as_ptr(), out.as_mut_ptr(), out.len(), &raw mut bytes) };
+    Refusal::check(number)?;
+    Ok(bytes)
+}
+
+/// Writes the trees to the start of the store and the map to the start of the
+/// cells, and gives the count of nodes. A node takes
+/// [`NODE_NUMBERS`](crate::NODE_NUMBERS) numbers;
+/// [`STORE_MOST`](crate::STORE_MOST) numbers and
+/// [`CELLS_MOST`](crate::CELLS_MOST) bytes are always enough. Refuses with 2 to 7.
+///
+/// ```
+/// use clearance::{map, read, Refusal};
+///
+/// let job = read(b"(job\n(plate 0 0 1)\n(cell 0)\n(reach 90)\n(edge (0 0) (0 0) (0 0) (0 0))\n)\n")?;
+/// let (mut store, mut cells) = ([0; 7], [0; 4]);
+/// assert_eq!(map(&job, &mut store, &mut cells), Ok(1));
+/// assert_eq!(store, [0, 0, 0, 0, 2, 2, 1]);
+/// assert_eq!(&cells, b"IIII");
+/// assert_eq!(map(&job, &mut store[1..], &mut cells), Err(Refusal::Store));
+/// # Ok::<(), Refusal>(())
+/// ```
+pub fn map(job: &Job, store: &mut [i32], cells: &mut [u8]) -> Result<usize, Refusal> {
+    let mut nodes = 0;
+    // SAFETY: a job, two slices and a number of its own, see the head of this file.
+    let number = unsafe {
+        ffi::clearance_map(
+            job.as_ptr(),
+            store.as_mut_ptr(),
+            store.len(),
+            cells.as_mut_ptr(),
+            cells.len(),
+            &raw mut nodes,
+        )
+    };
+    Refusal::check(number)?;
+    Ok(nodes)
+}
+
+/// Bounds the distance of the point `(x, y)` from the outline. The store begins
+/// with the job's trees, as [`map`] left them. Refuses with 2, 3, 4, 5, 6 or 8.
+///
+/// ```
+/// use clearance::{map, point, read, Refusal};
+///
+/// let job = read(b"(job\n(plate 0 0 1)\n(cell 0)\n(reach 90)\n(edge (0 0) (0 0) (0 0) (0 0))\n)\n")?;
+/// let (mut store, mut cells) = ([0; 7], [0; 4]);
+/// assert_eq!(point(&job, 3, 4, &store), Err(Refusal::Stranger));
+/// map(&job, &mut store, &mut cells)?;
+/// assert_eq!(point(&job, 3, 4, &store)?.hi, 6856);
+/// # Ok::<(), Refusal>(())
+/// ```
+pub fn point(job: &Job, x: i32, y: i32, store: &[i32]) -> Result<Nearest, Refusal> {
+    let mut nearest = [0; 3];
+    // SAFETY: a job, a slice and numbers of its own, see the head of this file.
+    let number = unsafe {
+        ffi::clearance_point(
+            job.as_ptr(),
+            x,
+            y,
+            store.as_ptr(),
+            store.len(),
+            nearest.as_mut_ptr(),
+        )
+    };
+    Refusal::check(number)?;
+    let [lo, hi, edge] = nearest;
+    let edge = usize::try_from(edge).expect("the library names an edge from 0 to 63");
+    Ok(Nearest { lo, hi, edge })
+}

@@ -1,0 +1,83 @@
+// The small functions on signed numbers and on slices of them that the code over strip trees shares.
+ghost use mathlib.Core.Path.{_≡_};
+ghost use mathlib.Core.List.{_∷_};
+ghost use Prim.Native.Nat.{_≤_, _<_};
+ghost use lib.Dec.{T};
+ghost use lib.IntN.{ℤ, pos, natAbs};
+ghost use lib.ListN.{length, getD, drop};
+ghost use lib.Signed.{nonNeg, shrZ};
+ghost use Rattle.integers.specs.Absolute.{absℤ};
+ghost use Rattle.integers.specs.Rounding.{nearest};
+ghost use Rattle.model.specs.Store.{width};
+
+// ---- numbers
+
+pub fn abs(x: i64) -> i64
+    requires { ⌜ natAbs x ≤ 4294967296 ⌝ }
+    ensures absolute { λ r. ⌜ r ≡ absℤ x ⌝ }
+{
+    if x < 0 { 0 - x } else { x }
+}
+
+// x / n rounded down. The machine's division goes toward zero, so a remainder below zero says that the quotient is one too high.
+pub fn floor_div(x: i64, n: i64) -> i64
+    requires { ⌜ (natAbs x ≤ 8000000000000000000) × (0 < natAbs n) × T (nonNeg n) ⌝ }
+    ensures floor { λ r. ⌜ r ≡ shrZ x (natAbs n) ⌝ }
+{
+    let q = x / n;
+    let r = x % n;
+    if r < 0 { q - 1 } else { q }
+}
+
+// The whole number nearest to x / n, a half toward plus infinity: x / n + 1/2 rounded down.
+pub fn rounded(x: i64, n: i64) -> i64
+    requires { ⌜ (natAbs x ≤ 3900000000000000000) × (natAbs n ≤ 8589934592) × (0 < natAbs n) × T (nonNeg n) ⌝ }
+    ensures nearest { λ r. ⌜ r ≡ nearest x (natAbs n) ⌝ }
+{
+    floor_div(2 * x + n, 2 * n)
+}
+
+pub fn narrow(x: i64) -> i32
+    requires { ⌜ natAbs x ≤ 1000000000 ⌝ }
+    ensures same { λ r. ⌜ r ≡ x ⌝ }
+{
+    x as i32
+}
+
+pub fn narrow_count(n: usize) -> i32
+    requires { ⌜ n < 1000000 ⌝ }
+    ensures same { λ r. ⌜ r ≡ pos n ⌝ }
+{
+    n as i32
+}
+
+// ---- slices of stored numbers
+
+pub fn wide_at(s: &[i32], i: usize) -> i64
+    requires { ⌜ i < length (now s) ⌝ }
+    ensures element { λ r. ⌜ r ≡ getD (now (s .entry)) i (pos 0) ⌝ }
+{
+    s[i] as i64
+}
+
+// a stored count
+pub fn count_at(s: &[i32], i: usize) -> usize
+    requires { ⌜ (i < length (now s)) × T (nonNeg (getD (now s) i (pos 0))) ⌝ }
+    ensures element { λ r. ⌜ r ≡ natAbs (getD (now (s .entry)) i (pos 0)) ⌝ }
+{
+    s[i] as usize
+}
+
+// writes a node's numbers at the front of s
+pub fn put_node(s: &mut [i32], a: i32, b: i32, c: i32, d: i32, e: i32, f: i32, g: i32)
+    requires { ⌜ width ≤ length (now s) ⌝ }
+    ensures written { λ _. ⌜ now (s .exit) ≡ a ∷ b ∷ c ∷ d ∷ e ∷ f ∷ g ∷ drop width (now (s .entry)) ⌝ }
+{
+    s[0] = a;
+    s[1] = b;
+    s[2] = c;
+    s[3] = d;
+    s[4] = e;
+    s[5] = f;
+    s[6] = g;
+}

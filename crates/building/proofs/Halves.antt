@@ -1,0 +1,66 @@
+-- A node's numbers as they are narrowed, and what the builder leaves after both halves. Assumes nothing.
+use mathlib.Core.Path.{_≡_, refl, sym, ap, _∙_}
+use mathlib.Core.List.{List, _∷_, _++_, append-assoc}
+use Prim.Native.Nat.{ℕ, suc, _+_, _*_, _-_, _^_, _≤_, _<_}
+use native.Mathlib.Nat.{le-trans}
+use native.Mathlib.Omega.{arith}
+use lib.Dec.{T, leb, leb→le}
+use lib.IntN.{ℤ, natAbs}
+use lib.Signed.{mag}
+use lib.ListN.{length, take, drop, length-append}
+use lib.Seq.{take-at, drop-at, drop-drop, length-take-le}
+use mir.Syntax.{w32, w64}
+use mir.Val.{toZ, ofZ}
+use borrow.Rule.Slice.PartMut.{putMid, midOf}
+use Rattle.integers.specs.Signed.{held, back, read32}
+use Rattle.sequences.specs.Parts.{tail-mid, tail-put}
+use Rattle.model.specs.Strips.{Strip}
+use Rattle.model.specs.Trees.{Tree}
+use Rattle.model.specs.Store.{width, size, numbers, flatten}
+use Rattle.subtrees.specs.Preorder.{length-flatten}
+
+-- a field within a bound may be narrowed
+pub fit : (v : ℤ) (B : ℕ) → natAbs v ≤ B → T (leb B 1000000000) → natAbs (toZ w64 (ofZ w64 v)) ≤ 1000000000
+fit v B h t = let k = le-trans h (leb→le B 1000000000 t) in rw (back (held v k tt)) k
+
+-- what it is then stored as
+pub cell : (r v : ℤ) → mag r < 2 ^ 31 → r ≡ toZ w64 (ofZ w64 v) → natAbs v ≤ 1000000000 → toZ w32 (ofZ w32 r) ≡ v
+cell r v k e h = read32 r k ∙ e ∙ back (held v h tt)
+
+pub seven : {a b c d e f g p q r s t u v : ℤ} (l : List ℤ) → a ≡ p → b ≡ q → c ≡ r → d ≡ s → e ≡ t → f ≡ u → g ≡ v →
+    _≡_ {A = List ℤ} (a ∷ b ∷ c ∷ d ∷ e ∷ f ∷ g ∷ l) (p ∷ q ∷ r ∷ s ∷ t ∷ u ∷ v ∷ l)
+seven l h i j k m n o = rw (h, i, j, k, m, n, o)
+
+two′ : (p a b t : List ℤ) (i j : ℕ) → length p ≡ width → length (p ++ a) ≡ i →
+    drop width (take i (p ++ (a ++ t)) ++ (b ++ drop j (drop i (p ++ (a ++ t))))) ≡ (a ++ b) ++ drop j t
+two′ p a b t i j hp hi =
+    rw (← append-assoc p a t, take-at (p ++ a) t i hi, drop-at (p ++ a) t i hi, append-assoc p a, drop-at p _ width hp)
+    (sym (append-assoc a b (drop j t)))
+
+-- what the builder leaves after the first node's seven numbers
+pub two : (s a b : List ℤ) (m n : ℕ) → length a ≡ width * m → width + width * m + width * n ≤ length s →
+    drop width (take (width + width * m) (take width s ++ (a ++ drop (width * m) (drop width s))) ++ (b ++ drop (width * n) (drop (width + width * m) (take width s ++ (a ++ drop (width * m) (drop width s))))))
+    ≡ (a ++ b) ++ drop (width * suc (m + n)) s
+two s a b m n ha h =
+    let z : length (take width s) ≡ width = length-take-le width s (omega arith) in
+    let y : width + width * m + width * n ≡ width * suc (m + n) = omega arith in
+    two′ (take width s) a b (drop (width * m) (drop width s)) (width + width * m) (width * n) z (omega (arith, length-append (take width s) a))
+    ∙ rw (drop-drop (width * m) width s, drop-drop (width * n) (width + width * m) s, y)
+
+-- the same with the parts as they come back from the two calls
+pub both : (s u v : List ℤ) (l r : Tree) (m : ℕ) → m ≡ size l → width + width * size l + width * size r ≤ length s →
+    length (putMid width (length s - width) s u) ≡ length s →
+    u ≡ flatten l ++ drop (width * size l) (midOf width (length s - width) s) →
+    v ≡ flatten r ++ drop (width * size r) (midOf (width + width * m) (length (putMid width (length s - width) s u) - (width + width * m)) (putMid width (length s - width) s u)) →
+    drop width (putMid (width + width * m) (length (putMid width (length s - width) s u) - (width + width * m)) (putMid width (length s - width) s u) v)
+    ≡ (flatten l ++ flatten r) ++ drop (width * suc (size l + size r)) s
+both s u v l r m e h n p q =
+    let i : width ≤ length s = omega arith in
+    let j : width + width * m ≤ length (putMid width (length s - width) s u) = omega arith in
+    let k : putMid width (length s - width) s u ≡ take width s ++ (flatten l ++ drop (width * size l) (drop width s)) = tail-put width s u i ∙ ap (λ (z : List ℤ). take width s ++ z) (p ∙ ap (λ (z : List ℤ). flatten l ++ drop (width * size l) z) (tail-mid width s)) in
+    let w = rw (tail-mid (width + width * m) (putMid width (length s - width) s u)) at q in
+    rw (tail-put (width + width * m) (putMid width (length s - width) s u) v j, w, k, e) (two s (flatten l) (flatten r) (size l) (size r) (length-flatten l) h)
+
+-- a node's numbers by its strip
+pub put-eq : {s u : Strip} (n : ℕ) (l : List ℤ) → s ≡ u → numbers s n l ≡ numbers u n l
+put-eq {s} {u} n l e = ap (λ (z : Strip). numbers z n l) e

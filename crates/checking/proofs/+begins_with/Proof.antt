@@ -1,0 +1,296 @@
+-- The measure is the halvings that are left. Each return is one of the answers of `Found`. Assumes nothing.
+use mathlib.Core.Path.{_≡_, refl, sym, ap, ap₂, _∙_, subst}
+use mathlib.Core.Bool.{true, false}
+use mathlib.Core.Logic.{_⊎_, inl, inr}
+use mathlib.Core.List.{List, _++_}
+use Prim.Native.Nat.{suc, _+_, _*_, _-_, _≤_}
+use native.Mathlib.Omega.{arith}
+use mir.Facts.{toZ-ofZ}
+use lib.IntN.{ℤ, pos}
+use lib.ListN.{length, getD, drop, length-drop}
+use Rattle.model.specs.Strips.{Side, Strip}
+use Rattle.model.specs.Trees.{Tree, leaf, long, node, isLong}
+use Rattle.model.specs.Store.{width, size}
+use Rattle.ranges.specs.Sizes.{SideSized}
+use Rattle.ranges.specs.PowerForm.{by-sized}
+use Rattle.subtrees.specs.Preorder.{size-pos, tail, countPlace, HasStrip, Begins}
+use Rattle.subtrees.specs.Subtrees.{stripBy, shortBy, subtree}
+use Rattle.subtrees.specs.Halving.{Halvable, at-short, few, n-in, left-half, right-half, Forked, forked}
+use Rattle.strips.specs.Structs.{form, side, stripOf}
+use Rattle.checking.specs.Answers.{Unless, Told, unless-true, unless-false, refused, granted}
+use Rattle.checking.proofs.Found.{no-strip, no-count, yes-leaf, no-left, no-right, yes-node}
+use Prim.Native.Nat.{ℕ, _<_}
+use borrow.Fn.Kinds.{In}
+use borrow.Fn.PlainCycle.{Measures, is, falls, and}
+use Rattle.checking.proofs.begins_with.Reads as begins-with
+use Rattle.checking.proofs.begins_with.Kinds as begins-with-kinds
+use Rattle.checking.proofs.+begins_with.Lts-begins_with as begins-with-lts
+use Rattle.checking.proofs.differs_count.Reads as differs-count-reads
+use Rattle.checking.proofs.differs_strip.Reads as differs-strip-reads
+use Rattle.strips.proofs.piece_of.Reads as piece-of-reads
+use Rattle.checking.proofs.+begins_with.{statement}
+use Rattle.checking.proofs.+begins_with.Tie.{close}
+
+abbrev μ-begins-with : Measures 1 begins-with-kinds.ps ℕ
+μ-begins-with κs a = a .1 .1 .1 .0
+
+abbrev begins-with-at : ℕ → In 1 begins-with-kinds.ps
+begins-with-at t = and 1 begins-with-kinds.ps (is 1 begins-with-kinds.ps μ-begins-with t) begins-with.Pre
+
+abbrev begins-with-below : ℕ → In 1 begins-with-kinds.ps
+begins-with-below t = and 1 begins-with-kinds.ps (falls 1 begins-with-kinds.ps _<_ μ-begins-with t) begins-with.Pre
+
+abbrev callees : ℕ → begins-with-lts.Claims
+callees t = (piece-of-reads.Asked, piece-of-reads.Learnt, differs-strip-reads.Asked, differs-strip-reads.Learnt, differs-count-reads.Asked, differs-count-reads.Learnt, begins-with-below t, begins-with.Post)
+
+abbrev whole-of : (t : ℕ) → begins-with-lts.Start (callees t) (begins-with-at t) begins-with.Post → Tree
+whole-of t s = subtree (s .args .limit) (form (s .args .cx)) (form (s .args .cy)) (s .args .left) (s .args .n) (s .args .m)
+
+abbrev left-of : (t : ℕ) → begins-with-lts.Start (callees t) (begins-with-at t) begins-with.Post → Tree
+left-of t s = subtree (s .args .limit) (form (s .args .cx)) (form (s .args .cy)) (s .args .left - 1) (2 * s .args .n) (2 * s .args .m - 1)
+
+abbrev right-of : (t : ℕ) → begins-with-lts.Start (callees t) (begins-with-at t) begins-with.Post → Tree
+right-of t s = subtree (s .args .limit) (form (s .args .cx)) (form (s .args .cy)) (s .args .left - 1) (2 * s .args .n) (2 * s .args .m + 1)
+
+seven : (t : ℕ) (s : begins-with-lts.Start (callees t) (begins-with-at t) begins-with.Post) → width ≤ length (s .args .s .now)
+seven t s = omega (arith, size-pos (whole-of t s), s .pre .1 .4)
+
+short-is : (t : ℕ) (c : begins-with-lts.After-piece-of (callees t) (begins-with-at t) begins-with.Post) → let s = c .before in c .piece-of .result .short ≡ shortBy (s .args .limit) (form (s .args .cx)) (form (s .args .cy)) (s .args .n) (s .args .m)
+short-is t c = rw (toZ-ofZ (c .before .fits .limit)) at (c .piece-of .ensures .1)
+
+strip-is : (t : ℕ) (c : begins-with-lts.After-piece-of (callees t) (begins-with-at t) begins-with.Post) → let s = c .before in stripOf (c .piece-of .result .x) (c .piece-of .result .y) ≡ stripBy (form (s .args .cx)) (form (s .args .cy)) (s .args .n) (s .args .m)
+unfolding stripBy
+strip-is t c = let e = c .piece-of .ensures .0 in ap₂ {C = Strip} (λ (x y : Side). record { x = x; y = y }) (e .0) (e .1)
+
+strip-at : (t : ℕ) (c : begins-with-lts.Else1 (callees t) (begins-with-at t) begins-with.Post) → let a = c .before .before .before .before in HasStrip (a .before .args .s .now) (stripOf (a .piece-of .result .x) (a .piece-of .result .y))
+strip-at t c =
+    let a = c .before .before .before .before in
+    unless-false (c .before .differs-strip .result) (HasStrip (a .before .args .s .now) (stripOf (a .piece-of .result .x) (a .piece-of .result .y))) (c .before .differs-strip .ensures) (c .if1 .left)
+
+fork-at : (t : ℕ) (c : begins-with-lts.Else2 (callees t) (begins-with-at t) begins-with.Post) → let s = c .before .before .before .before .before .before in Forked (s .args .limit) (form (s .args .cx)) (form (s .args .cy)) (s .args .left) (s .args .n) (s .args .m)
+fork-at t c =
+    let a = c .before .before .before .before .before in
+    let s = a .before in
+    forked (s .args .limit) (form (s .args .cx)) (form (s .args .cy)) (s .args .left) (s .args .n) (s .args .m) (sym (short-is t a) ∙ c .if2 .left) (s .pre .1 .3)
+
+room : (t : ℕ) (c : begins-with-lts.Else2 (callees t) (begins-with-at t) begins-with.Post) → let s = c .before .before .before .before .before .before in width + width * size (left-of t s) + width * size (right-of t s) ≤ length (s .args .s .now)
+room t c = let s = c .before .before .before .before .before .before in omega (arith, ap size (fork-at t c .is), s .pre .1 .4)
+
+left-told : (t : ℕ) (c : begins-with-lts.After-begins-with (callees t) (begins-with-at t) begins-with.Post) → let s = c .before .before .before .before .before .before .before .before in Told (c .begins-with .result) (size (left-of t s)) (Begins (left-of t s) (drop width (s .args .s .now)))
+left-told t c =
+    let s = c .before .before .before .before .before .before .before .before in
+    rw (toZ-ofZ (s .fits .limit), tail width (s .args .s .now)) at (c .begins-with .ensures)
+
+left-is : (t : ℕ) (c : begins-with-lts.Else4 (callees t) (begins-with-at t) begins-with.Post) → let s = c .before .before .before .before .before .before .before .before .before in (c .before .begins-with .result ≡ size (left-of t s)) × Begins (left-of t s) (drop width (s .args .s .now))
+left-is t c =
+    let s = c .before .before .before .before .before .before .before .before .before in
+    granted (c .before .begins-with .result) (size (left-of t s)) (Begins (left-of t s) (drop width (s .args .s .now))) (left-told t (c .before)) (c .if4 .left)
+
+right-told : (t : ℕ) (c : begins-with-lts.After-begins-with2 (callees t) (begins-with-at t) begins-with.Post) → let s = c .before .before .before .before .before .before .before .before .before .before .before in Told (c .begins-with2 .result) (size (right-of t s)) (Begins (right-of t s) (drop (width + width * size (left-of t s)) (s .args .s .now)))
+right-told t c =
+    let b = c .before .before in
+    let s = b .before .before .before .before .before .before .before .before .before in
+    rw (toZ-ofZ (s .fits .limit), tail (width + width * b .before .begins-with .result) (s .args .s .now), left-is t b .0) at (c .begins-with2 .ensures)
+
+right-is : (t : ℕ) (c : begins-with-lts.Else5 (callees t) (begins-with-at t) begins-with.Post) → let s = c .before .before .before .before .before .before .before .before .before .before .before .before in (c .before .begins-with2 .result ≡ size (right-of t s)) × Begins (right-of t s) (drop (width + width * size (left-of t s)) (s .args .s .now))
+right-is t c =
+    let s = c .before .before .before .before .before .before .before .before .before .before .before .before in
+    granted (c .before .begins-with2 .result) (size (right-of t s)) (Begins (right-of t s) (drop (width + width * size (left-of t s)) (s .args .s .now))) (right-told t (c .before)) (c .if5 .left)
+
+few-at : (t : ℕ) (c : begins-with-lts.Else5 (callees t) (begins-with-at t) begins-with.Post) → 1 + c .before .before .before .before .begins-with .result + c .before .begins-with2 .result < 4096
+few-at t c =
+    let b = c .before .before .before in
+    let e = b .before .before .before in
+    let s = e .before .before .before .before .before .before in
+    let p = s .pre .1 .2 in
+    let z = fork-at t e .more in
+    omega (
+      arith,
+      left-is t b .0,
+      right-is t c .0,
+      few (s .args .limit) (form (s .args .cx)) (form (s .args .cy)) (s .args .left - 1) (2 * s .args .n) (2 * s .args .m - 1) (left-half p z),
+      few (s .args .limit) (form (s .args .cx)) (form (s .args .cy)) (s .args .left - 1) (2 * s .args .n) (2 * s .args .m + 1) (right-half p z),
+    )
+
+begins-with-piece-of-requires : (t : ℕ) → begins-with-lts.Need-piece-of-requires (callees t) (begins-with-at t) begins-with.Post
+begins-with-piece-of-requires t c κs = let p = c .pre .1 in (p .0, p .1, p .2 .two, n-in (p .2), omega (arith, p .2 .high))
+
+begins-with-differs-strip-requires : (t : ℕ) → begins-with-lts.Need-differs-strip-requires (callees t) (begins-with-at t) begins-with.Post
+begins-with-differs-strip-requires t c κs =
+    let a = c .before .before in
+    let s = a .before in
+    let p = s .pre .1 in
+    let k = n-in (p .2) in (
+      seven t s,
+      subst SideSized (sym (a .piece-of .ensures .0 .0)) (by-sized (form (s .args .cx)) (s .args .n) (s .args .m) (p .0) (p .2 .two) (omega (arith, p .2 .high))),
+      subst SideSized (sym (a .piece-of .ensures .0 .1)) (by-sized (form (s .args .cy)) (s .args .n) (s .args .m) (p .1) (p .2 .two) (omega (arith, p .2 .high))),
+    )
+
+begins-with-returns : (t : ℕ) → begins-with-lts.Need-returns (callees t) (begins-with-at t) begins-with.Post
+begins-with-returns t c =
+    let s = c .before .before .before .before .before in
+    let a = c .before .before .before .before in
+    no-strip (s .args .limit) (form (s .args .cx)) (form (s .args .cy)) (s .args .left) (s .args .n) (s .args .m) (stripOf (a .piece-of .result .x) (a .piece-of .result .y)) (strip-is t a) (s .args .s .now) (unless-true (c .before .differs-strip .result) (HasStrip (s .args .s .now) (stripOf (a .piece-of .result .x) (a .piece-of .result .y))) (c .before .differs-strip .ensures) (c .if1 .taken))
+
+begins-with-differs-count-requires : (t : ℕ) → begins-with-lts.Need-differs-count-requires (callees t) (begins-with-at t) begins-with.Post
+begins-with-differs-count-requires t c κs = (seven t (c .before .before .before .before .before .before), omega arith)
+
+begins-with-returns-2 : (t : ℕ) → begins-with-lts.Need-returns-2 (callees t) (begins-with-at t) begins-with.Post
+begins-with-returns-2 t c =
+    let s = c .before .before .before .before .before .before .before .before in
+    let a = c .before .before .before .before .before .before .before in
+    no-count (s .args .limit) (form (s .args .cx)) (form (s .args .cy)) (s .args .left) (s .args .n) (s .args .m) (stripOf (a .piece-of .result .x) (a .piece-of .result .y)) (strip-is t a) (s .args .s .now) 1 (ap size (at-short (s .args .limit) (form (s .args .cx)) (form (s .args .cy)) (s .args .left) (s .args .n) (s .args .m) (sym (short-is t a) ∙ c .before .before .if2 .taken))) (unless-true (c .before .differs-count .result) (getD (s .args .s .now) countPlace (pos 0) ≡ pos 1) (c .before .differs-count .ensures) (c .if3 .taken))
+
+begins-with-returns-3 : (t : ℕ) → begins-with-lts.Need-returns-3 (callees t) (begins-with-at t) begins-with.Post
+begins-with-returns-3 t c =
+    let s = c .before .before .before .before .before .before .before .before in
+    let a = c .before .before .before .before .before .before .before in
+    yes-leaf (s .args .limit) (form (s .args .cx)) (form (s .args .cy)) (s .args .left) (s .args .n) (s .args .m) (stripOf (a .piece-of .result .x) (a .piece-of .result .y)) (strip-is t a) (s .args .s .now) (sym (short-is t a) ∙ c .before .before .if2 .taken) (seven t s) (strip-at t (c .before .before .before)) (unless-false (c .before .differs-count .result) (getD (s .args .s .now) countPlace (pos 0) ≡ pos 1) (c .before .differs-count .ensures) (c .if3 .left))
+
+begins-with-sub-begins-with : (t : ℕ) → begins-with-lts.Need-sub-begins-with (callees t) (begins-with-at t) begins-with.Post
+begins-with-sub-begins-with t c = omega (arith, room t c)
+
+begins-with-part-begins-with-start : (t : ℕ) → begins-with-lts.Need-part-begins-with-start (callees t) (begins-with-at t) begins-with.Post
+begins-with-part-begins-with-start t c = omega (arith, room t c)
+
+begins-with-part-begins-with-end : (t : ℕ) → begins-with-lts.Need-part-begins-with-end (callees t) (begins-with-at t) begins-with.Post
+begins-with-part-begins-with-end t c = omega arith
+
+begins-with-sub-begins-with-2 : (t : ℕ) → begins-with-lts.Need-sub-begins-with-2 (callees t) (begins-with-at t) begins-with.Post
+begins-with-sub-begins-with-2 t c = let z = fork-at t (c .before) .more in omega (arith, z)
+
+begins-with-mul-begins-with : (t : ℕ) → begins-with-lts.Need-mul-begins-with (callees t) (begins-with-at t) begins-with.Post
+begins-with-mul-begins-with t c = omega (arith, n-in (c .before .before .before .before .before .before .before .pre .1 .2))
+
+begins-with-mul-begins-with-2 : (t : ℕ) → begins-with-lts.Need-mul-begins-with-2 (callees t) (begins-with-at t) begins-with.Post
+begins-with-mul-begins-with-2 t c = omega (arith, n-in (c .before .before .before .before .before .before .before .pre .1 .2), c .before .before .before .before .before .before .before .pre .1 .2 .high)
+
+begins-with-sub-begins-with-3 : (t : ℕ) → begins-with-lts.Need-sub-begins-with-3 (callees t) (begins-with-at t) begins-with.Post
+begins-with-sub-begins-with-3 t c = omega (arith, c .before .before .before .before .before .before .before .pre .1 .2 .low)
+
+begins-with-begins-with-requires : (t : ℕ) → begins-with-lts.Need-begins-with-requires (callees t) (begins-with-at t) begins-with.Post
+begins-with-begins-with-requires t c κs =
+    let e = c .before in
+    let s = c .before .before .before .before .before .before .before in
+    let p = s .pre .1 in
+    let f = fork-at t e in
+    rw (toZ-ofZ (s .fits .limit))
+    (omega (arith, s .pre .0, f .more), (p .0, p .1, left-half (p .2) (f .more), f .left-ok, rw (tail width (s .args .s .now)) (simp length-drop (omega (arith, room t e)))))
+
+begins-with-returns-4 : (t : ℕ) → begins-with-lts.Need-returns-4 (callees t) (begins-with-at t) begins-with.Post
+begins-with-returns-4 t c =
+    let s = c .before .before .before .before .before .before .before .before .before in
+    let a = c .before .before .before .before .before .before .before .before in
+    no-left (s .args .limit) (form (s .args .cx)) (form (s .args .cy)) (s .args .left) (s .args .n) (s .args .m) (stripOf (a .piece-of .result .x) (a .piece-of .result .y)) (strip-is t a) (s .args .s .now) (fork-at t (c .before .before .before)) (refused (c .before .begins-with .result) (size (left-of t s)) (Begins (left-of t s) (drop width (s .args .s .now))) (left-told t (c .before)) (size-pos (left-of t s)) (c .if4 .taken))
+
+begins-with-mul-mid : (t : ℕ) → begins-with-lts.Need-mul-mid (callees t) (begins-with-at t) begins-with.Post
+begins-with-mul-mid t c = omega (arith, room t (c .before .before .before), left-is t c .0)
+
+begins-with-add-mid : (t : ℕ) → begins-with-lts.Need-add-mid (callees t) (begins-with-at t) begins-with.Post
+begins-with-add-mid t c = omega (arith, room t (c .before .before .before), left-is t c .0)
+
+begins-with-mul-begins-with-3 : (t : ℕ) → begins-with-lts.Need-mul-begins-with-3 (callees t) (begins-with-at t) begins-with.Post
+begins-with-mul-begins-with-3 t c = omega (arith, room t (c .before .before .before), left-is t c .0)
+
+begins-with-sub-begins-with-4 : (t : ℕ) → begins-with-lts.Need-sub-begins-with-4 (callees t) (begins-with-at t) begins-with.Post
+begins-with-sub-begins-with-4 t c = omega (arith, room t (c .before .before .before), left-is t c .0)
+
+begins-with-part-begins-with-start-2 : (t : ℕ) → begins-with-lts.Need-part-begins-with-start-2 (callees t) (begins-with-at t) begins-with.Post
+begins-with-part-begins-with-start-2 t c = omega (arith, room t (c .before .before .before), left-is t c .0)
+
+begins-with-part-begins-with-end-2 : (t : ℕ) → begins-with-lts.Need-part-begins-with-end-2 (callees t) (begins-with-at t) begins-with.Post
+begins-with-part-begins-with-end-2 t c = omega arith
+
+begins-with-sub-begins-with-5 : (t : ℕ) → begins-with-lts.Need-sub-begins-with-5 (callees t) (begins-with-at t) begins-with.Post
+begins-with-sub-begins-with-5 t c = let z = fork-at t (c .before .before .before .before) .more in omega (arith, z)
+
+begins-with-mul-begins-with-4 : (t : ℕ) → begins-with-lts.Need-mul-begins-with-4 (callees t) (begins-with-at t) begins-with.Post
+begins-with-mul-begins-with-4 t c = omega (arith, n-in (c .before .before .before .before .before .before .before .before .before .before .pre .1 .2))
+
+begins-with-mul-begins-with-5 : (t : ℕ) → begins-with-lts.Need-mul-begins-with-5 (callees t) (begins-with-at t) begins-with.Post
+begins-with-mul-begins-with-5 t c = omega (arith, n-in (c .before .before .before .before .before .before .before .before .before .before .pre .1 .2), c .before .before .before .before .before .before .before .before .before .before .pre .1 .2 .high)
+
+begins-with-add-begins-with : (t : ℕ) → begins-with-lts.Need-add-begins-with (callees t) (begins-with-at t) begins-with.Post
+begins-with-add-begins-with t c = omega (arith, n-in (c .before .before .before .before .before .before .before .before .before .before .pre .1 .2), c .before .before .before .before .before .before .before .before .before .before .pre .1 .2 .high)
+
+begins-with-begins-with-requires-2 : (t : ℕ) → begins-with-lts.Need-begins-with-requires-2 (callees t) (begins-with-at t) begins-with.Post
+begins-with-begins-with-requires-2 t c κs =
+    let b = c .before in
+    let e = b .before .before .before in
+    let s = c .before .before .before .before .before .before .before .before .before .before in
+    let p = s .pre .1 in
+    let f = fork-at t e in
+    rw (toZ-ofZ (s .fits .limit))
+    (omega (arith, s .pre .0, f .more), (p .0, p .1, right-half (p .2) (f .more), f .right-ok, rw (tail (width + width * b .before .begins-with .result) (s .args .s .now)) (simp length-drop (omega (arith, room t e, left-is t b .0)))))
+
+begins-with-returns-5 : (t : ℕ) → begins-with-lts.Need-returns-5 (callees t) (begins-with-at t) begins-with.Post
+begins-with-returns-5 t c =
+    let s = c .before .before .before .before .before .before .before .before .before .before .before .before in
+    let a = c .before .before .before .before .before .before .before .before .before .before .before in
+    no-right (s .args .limit) (form (s .args .cx)) (form (s .args .cy)) (s .args .left) (s .args .n) (s .args .m) (stripOf (a .piece-of .result .x) (a .piece-of .result .y)) (strip-is t a) (s .args .s .now) (fork-at t (c .before .before .before .before .before .before)) (refused (c .before .begins-with2 .result) (size (right-of t s)) (Begins (right-of t s) (drop (width + width * size (left-of t s)) (s .args .s .now))) (right-told t (c .before)) (size-pos (right-of t s)) (c .if5 .taken))
+
+begins-with-add-nodes : (t : ℕ) → begins-with-lts.Need-add-nodes (callees t) (begins-with-at t) begins-with.Post
+begins-with-add-nodes t c = omega (arith, few-at t c)
+
+begins-with-add-nodes-2 : (t : ℕ) → begins-with-lts.Need-add-nodes-2 (callees t) (begins-with-at t) begins-with.Post
+begins-with-add-nodes-2 t c = omega (arith, few-at t c)
+
+begins-with-differs-count-requires-2 : (t : ℕ) → begins-with-lts.Need-differs-count-requires-2 (callees t) (begins-with-at t) begins-with.Post
+begins-with-differs-count-requires-2 t c κs = (seven t (c .before .before .before .before .before .before .before .before .before .before .before .before), few-at t c)
+
+begins-with-returns-6 : (t : ℕ) → begins-with-lts.Need-returns-6 (callees t) (begins-with-at t) begins-with.Post
+begins-with-returns-6 t c =
+    let d = c .before .before in
+    let b = d .before .before .before in
+    let n : 1 + b .before .begins-with .result + d .before .begins-with2 .result ≡ suc (size (left-of t (c .before .before .before .before .before .before .before .before .before .before .before .before .before .before)) + size (right-of t (c .before .before .before .before .before .before .before .before .before .before .before .before .before .before))) = omega (arith, left-is t b .0, right-is t d .0) in
+    let u = rw n at (c .before .differs-count2 .ensures) in
+    let s = c .before .before .before .before .before .before .before .before .before .before .before .before .before .before in
+    let a = c .before .before .before .before .before .before .before .before .before .before .before .before .before in
+    no-count (s .args .limit) (form (s .args .cx)) (form (s .args .cy)) (s .args .left) (s .args .n) (s .args .m) (stripOf (a .piece-of .result .x) (a .piece-of .result .y)) (strip-is t a) (s .args .s .now) (suc (size (left-of t s) + size (right-of t s))) (ap size (fork-at t (c .before .before .before .before .before .before .before .before) .is)) (unless-true (c .before .differs-count2 .result) (getD (s .args .s .now) countPlace (pos 0) ≡ pos (suc (size (left-of t s) + size (right-of t s)))) u (c .if6 .taken))
+
+begins-with-returns-7 : (t : ℕ) → begins-with-lts.Need-returns-7 (callees t) (begins-with-at t) begins-with.Post
+begins-with-returns-7 t c =
+    let d = c .before .before in
+    let b = d .before .before .before in
+    let n : 1 + b .before .begins-with .result + d .before .begins-with2 .result ≡ suc (size (left-of t (c .before .before .before .before .before .before .before .before .before .before .before .before .before .before)) + size (right-of t (c .before .before .before .before .before .before .before .before .before .before .before .before .before .before))) = omega (arith, left-is t b .0, right-is t d .0) in
+    let u = rw n at (c .before .differs-count2 .ensures) in
+    let s = c .before .before .before .before .before .before .before .before .before .before .before .before .before .before in
+    let a = c .before .before .before .before .before .before .before .before .before .before .before .before .before in
+    rw n (yes-node (s .args .limit) (form (s .args .cx)) (form (s .args .cy)) (s .args .left) (s .args .n) (s .args .m) (stripOf (a .piece-of .result .x) (a .piece-of .result .y)) (strip-is t a) (s .args .s .now) (fork-at t (c .before .before .before .before .before .before .before .before)) (seven t s) (strip-at t (c .before .before .before .before .before .before .before .before .before)) (left-is t b .1) (right-is t d .1) (unless-false (c .before .differs-count2 .result) (getD (s .args .s .now) countPlace (pos 0) ≡ pos (suc (size (left-of t s) + size (right-of t s)))) u (c .if6 .left)))
+
+pub +begins-with-spec : {M : Type 1} → statement M
++begins-with-spec = close μ-begins-with λ t. begins-with-lts.spec (callees t)
+    (begins-with-at t)
+    begins-with.Post
+    (begins-with-piece-of-requires t)
+    (begins-with-differs-strip-requires t)
+    (begins-with-returns t)
+    (begins-with-differs-count-requires t)
+    (begins-with-returns-2 t)
+    (begins-with-returns-3 t)
+    (begins-with-sub-begins-with t)
+    (begins-with-part-begins-with-start t)
+    (begins-with-part-begins-with-end t)
+    (begins-with-sub-begins-with-2 t)
+    (begins-with-mul-begins-with t)
+    (begins-with-mul-begins-with-2 t)
+    (begins-with-sub-begins-with-3 t)
+    (begins-with-begins-with-requires t)
+    (begins-with-returns-4 t)
+    (begins-with-mul-mid t)
+    (begins-with-add-mid t)
+    (begins-with-mul-begins-with-3 t)
+    (begins-with-sub-begins-with-4 t)
+    (begins-with-part-begins-with-start-2 t)
+    (begins-with-part-begins-with-end-2 t)
+    (begins-with-sub-begins-with-5 t)
+    (begins-with-mul-begins-with-4 t)
+    (begins-with-mul-begins-with-5 t)
+    (begins-with-add-begins-with t)
+    (begins-with-begins-with-requires-2 t)
+    (begins-with-returns-5 t)
+    (begins-with-add-nodes t)
+    (begins-with-add-nodes-2 t)
+    (begins-with-differs-count-requires-2 t)
+    (begins-with-returns-6 t)
+    (begins-with-returns-7 t)

@@ -1,0 +1,100 @@
+// Does a store begin with an edge's strip tree: compared number by number as the tree is walked, up to the first difference.
+use strips::Extent;
+use strips::Power;
+ghost use mathlib.Core.Path.{_≡_};
+ghost use mathlib.Core.Bool.{false};
+ghost use Prim.Native.Nat.{_*_, _≤_, _<_};
+ghost use lib.IntN.{pos};
+ghost use lib.ListN.{length, getD};
+ghost use Rattle.model.specs.Trees.{isLong};
+ghost use Rattle.model.specs.Store.{width, size};
+ghost use Rattle.ranges.specs.Sizes.{SideSized};
+ghost use Rattle.ranges.specs.PowerForm.{FormSized};
+ghost use Rattle.subtrees.specs.Preorder.{countPlace, HasSide, HasStrip, Begins};
+ghost use Rattle.subtrees.specs.Subtrees.{subtree};
+ghost use Rattle.subtrees.specs.Halving.{Halvable};
+ghost use Rattle.strips.specs.Structs.{form, side, stripOf};
+ghost use Rattle.checking.specs.Answers.{Unless, Told};
+
+// is number i of s other than v
+pub fn differs(s: &[i32], i: usize, v: i64) -> bool
+    requires { ⌜ i < length (now s) ⌝ }
+    ensures unless { λ r. ⌜ Unless r (getD (now (s .entry)) i (pos 0) ≡ v) ⌝ }
+{
+    let a = arithmetic::wide_at(s, i);
+    if a == v { false } else { true }
+}
+
+// is the first node's count other than this
+pub fn differs_count(s: &[i32], nodes: usize) -> bool
+    requires { ⌜ (width ≤ length (now s)) × (nodes < 4096) ⌝ }
+    ensures unless { λ r. ⌜ Unless r (getD (now (s .entry)) countPlace (pos 0) ≡ pos nodes) ⌝ }
+{
+    differs(s, 6, nodes as i64)
+}
+
+// is the first node's strip another one in coordinate i
+pub fn differs_side(s: &[i32], i: usize, v: Extent) -> bool
+    requires { ⌜ (i < 2) × (width ≤ length (now s)) × SideSized (side v) ⌝ }
+    ensures unless { λ r. ⌜ Unless r (HasSide (now (s .entry)) i (side v)) ⌝ }
+{
+    if differs(s, i, v.centre) {
+        return true;
+    }
+    if differs(s, i + 2, v.axis) {
+        return true;
+    }
+    differs(s, i + 4, v.half)
+}
+
+pub fn differs_strip(s: &[i32], x: Extent, y: Extent) -> bool
+    requires { ⌜ (width ≤ length (now s)) × SideSized (side x) × SideSized (side y) ⌝ }
+    ensures unless { λ r. ⌜ Unless r (HasStrip (now (s .entry)) (stripOf x y)) ⌝ }
+{
+    if differs_side(s, 0, x) {
+        return true;
+    }
+    differs_side(s, 1, y)
+}
+
+// the nodes of the piece's subtree if s begins with it, and 0 otherwise
+pub fn begins_with(
+    s: &[i32],
+    cx: Power,
+    cy: Power,
+    left: usize,
+    n: usize,
+    m: usize,
+    limit: i64,
+) -> usize
+    requires { ⌜ FormSized (form cx) × FormSized (form cy) × Halvable left n m × (isLong (subtree limit (form cx) (form cy) left n m) ≡ false) × (width * size (subtree limit (form cx) (form cy) left n m) ≤ length (now s)) ⌝ }
+    ensures told { λ r. ⌜ Told r (size (subtree limit (form cx) (form cy) left n m)) (Begins (subtree limit (form cx) (form cy) left n m) (now (s .entry))) ⌝ }
+{
+    let p = strips::piece_of(cx, cy, n, m, limit);
+    let x = p.x;
+    let y = p.y;
+    let short = p.short;
+    if differs_strip(s, x, y) {
+        return 0;
+    }
+    if short {
+        if differs_count(s, 1) {
+            return 0;
+        }
+        return 1;
+    }
+    let l = begins_with(&s[7..], cx, cy, left - 1, 2 * n, 2 * m - 1, limit);
+    if l == 0 {
+        return 0;
+    }
+    let mid = 7 + 7 * l;
+    let r = begins_with(&s[mid..], cx, cy, left - 1, 2 * n, 2 * m + 1, limit);
+    if r == 0 {
+        return 0;
+    }
+    let nodes = 1 + l + r;
+    if differs_count(s, nodes) {
+        return 0;
+    }
+    nodes
+}

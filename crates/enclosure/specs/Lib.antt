@@ -1,0 +1,4 @@
+-- A strip encloses its piece; the tree of an edge covers the edge's curve.
+pub mod Piece
+pub mod Covers
+pub mod Edges

@@ -1,0 +1,95 @@
+-- One coordinate of a piece lies in the strip's: for e = E/D from −1 to 1, times D³. Assumes nothing.
+use mathlib.Core.Path.{_≡_, _∙_, ap}
+use Prim.Native.Nat.{ℕ, _*_, _<_}
+use native.Mathlib.Nat.{mul-pos}
+use lib.IntN.{ℤ, pos, _+ℤ_, _-ℤ_, _*ℤ_}
+use Rattle.integers.specs.RingSolver.{_^ℤ_, name₂, name₄, name₆, name₈, name₉, name₁₂, reify, close, ok}
+use Rattle.integers.specs.Order.{_≼_, _≺_, pos-≺, _⊠_, gap, sq}
+use Rattle.integers.specs.Omega.{zarith}
+use Rattle.integers.specs.Inequalities.{from, _&_, weak}
+use Rattle.integers.specs.Absolute.{absℤ}
+use Rattle.integers.specs.Rounding.{nearest, nearest-near}
+use Rattle.model.specs.Jobs.{Cubic}
+use Rattle.model.specs.Strips.{sideAt, a0, a1, a2, a3}
+use Rattle.model.specs.Exact.{bernstein}
+use Rattle.integers.specs.Within.{Within, of-abs, own-abs, times, cancel}
+
+-- ---- Chebyshev: on −1..1 the parts of e, e², e³ that the strip leaves out stay within 1
+module _ (E D : ℤ) (h : Within E D) where
+  nonneg : pos 0 ≼ D
+  nonneg = from (h .low & h .high) (name₂ E D λ σ p q. simp (p, q, reify, σ) (omega zarith))
+
+  first : Within (E *ℤ D ^ℤ 2) (D ^ℤ 3)
+  first = record {
+    low = from (gap (h .low) ⊠ sq D) (name₂ E D λ σ p q. simp (p, q, reify, σ) (omega zarith));
+    high = from (gap (h .high) ⊠ sq D) (name₂ E D λ σ p q. simp (p, q, reify, σ) (omega zarith));
+  }
+
+  second : Within ((pos 2 *ℤ E ^ℤ 2 -ℤ D ^ℤ 2) *ℤ D) (D ^ℤ 3)
+  second = record {
+    low = from (sq E ⊠ nonneg) (name₂ E D λ σ p q. simp (p, q, reify, σ) (omega zarith));
+    high = from (gap (h .low) ⊠ gap (h .high) ⊠ nonneg) (name₂ E D λ σ p q. simp (p, q, reify, σ) (omega zarith));
+  }
+
+  third : Within (pos 4 *ℤ E ^ℤ 3 -ℤ pos 3 *ℤ E *ℤ D ^ℤ 2) (D ^ℤ 3)
+  third = record {
+    low = from (gap (h .low) ⊠ sq (D -ℤ pos 2 *ℤ E)) (name₂ E D λ σ p q. simp (p, q, reify, σ) (omega zarith));
+    high = from (gap (h .high) ⊠ sq (D +ℤ pos 2 *ℤ E)) (name₂ E D λ σ p q. simp (p, q, reify, σ) (omega zarith));
+  }
+
+  cube : Within (D ^ℤ 3) (D ^ℤ 3)
+  cube = record {
+    low = from (sq D ⊠ nonneg) (name₂ E D λ σ p q. simp (p, q, reify, σ) (omega zarith));
+    high = from (sq D ⊠ nonneg) (name₂ E D λ σ p q. simp (p, q, reify, σ) (omega zarith));
+  }
+
+-- ---- the piece's polynomial, at the parameter u/D = (m + e)/N with e = E/D, E = N·u − m·D
+cubic : (b0 b1 b2 b3 N m u D : ℤ) → (let b : Cubic = record { b0 = b0; b1 = b1; b2 = b2; b3 = b3 } in let E : ℤ = N *ℤ u -ℤ m *ℤ D in N ^ℤ 3 *ℤ bernstein b u (D -ℤ u) ≡ a0 b N m *ℤ D ^ℤ 3 +ℤ a1 b N m *ℤ (E *ℤ D ^ℤ 2) +ℤ a2 b N m *ℤ (E ^ℤ 2 *ℤ D) +ℤ a3 b *ℤ E ^ℤ 3)
+cubic b0 b1 b2 b3 N m u D = name₈ b0 b1 b2 b3 N m u D λ σ p0 p1 p2 p3 pN pm pu pD. simp (p0, p1, p2, p3, pN, pm, pu, pD, reify, σ) (close σ _ _ ok)
+
+-- sixteen times it, in the parts that Chebyshev bounds
+parts : (n X A0 A1 A2 A3 E D : ℤ) → n *ℤ X ≡ A0 *ℤ D ^ℤ 3 +ℤ A1 *ℤ (E *ℤ D ^ℤ 2) +ℤ A2 *ℤ (E ^ℤ 2 *ℤ D) +ℤ A3 *ℤ E ^ℤ 3 → pos 16 *ℤ (n *ℤ X) ≡ (pos 16 *ℤ A0 +ℤ pos 8 *ℤ A2) *ℤ D ^ℤ 3 +ℤ (pos 16 *ℤ A1 +ℤ pos 12 *ℤ A3) *ℤ (E *ℤ D ^ℤ 2) +ℤ pos 8 *ℤ A2 *ℤ ((pos 2 *ℤ E ^ℤ 2 -ℤ D ^ℤ 2) *ℤ D) +ℤ pos 4 *ℤ A3 *ℤ (pos 4 *ℤ E ^ℤ 3 -ℤ pos 3 *ℤ E *ℤ D ^ℤ 2)
+parts n X A0 A1 A2 A3 E D h = ap (λ t. pos 16 *ℤ t) h ∙ name₆ A0 A1 A2 A3 E D λ σ p0 p1 p2 p3 pE pD. simp (p0, p1, p2, p3, pE, pD, reify, σ) (close σ _ _ ok)
+
+-- ---- four roundings. `n` is N³, W is D³, Y, Y₂, Y₃ the parts; z, p, s, h the quotients of A, B, S, H, rounded; a, c bound |s|, |h|
+rounded : (S s a n : ℤ) → pos 0 ≼ n → Within (pos 2 *ℤ (s *ℤ n -ℤ S)) n → Within s a → Within (pos 2 *ℤ S) ((pos 2 *ℤ a +ℤ pos 1) *ℤ n)
+rounded S s a n hn h k = record {
+  low = from (h .high & hn ⊠ gap (k .low)) (name₄ S s a n λ σ p q r t. simp (p, q, r, t, reify, σ) (omega zarith));
+  high = from (h .low & hn ⊠ gap (k .high)) (name₄ S s a n λ σ p q r t. simp (p, q, r, t, reify, σ) (omega zarith));
+}
+
+-- the value off the strip's axis, from the four errors
+gather : (n Z W a c t₁ t₂ t₃ t₄ : ℤ) → pos 2 *ℤ (n *ℤ Z) ≡ t₃ +ℤ t₄ -ℤ t₁ -ℤ t₂ → Within t₁ (n *ℤ W) → Within t₂ (n *ℤ W) → Within t₃ ((pos 2 *ℤ a +ℤ pos 1) *ℤ n *ℤ W) → Within t₄ ((pos 2 *ℤ c +ℤ pos 1) *ℤ n *ℤ W) → Within (n *ℤ Z) (n *ℤ ((a +ℤ c +ℤ pos 2) *ℤ W))
+gather n Z W a c t₁ t₂ t₃ t₄ e h₁ h₂ h₃ h₄ = record {
+  low = from (e & h₁ .high & h₂ .high & h₃ .low & h₄ .low) (name₉ n Z W a c t₁ t₂ t₃ t₄ λ σ p₁ p₂ p₃ p₄ p₅ p₆ p₇ p₈ p₉. simp (p₁, p₂, p₃, p₄, p₅, p₆, p₇, p₈, p₉, reify, σ) (omega zarith));
+  high = from (e & h₁ .low & h₂ .low & h₃ .high & h₄ .high) (name₉ n Z W a c t₁ t₂ t₃ t₄ λ σ p₁ p₂ p₃ p₄ p₅ p₆ p₇ p₈ p₉. simp (p₁, p₂, p₃, p₄, p₅, p₆, p₇, p₈, p₉, reify, σ) (omega zarith));
+}
+
+errors : (n X A B S H z p W Y Y₂ Y₃ : ℤ) → pos 16 *ℤ (n *ℤ X) ≡ A *ℤ W +ℤ B *ℤ Y +ℤ S *ℤ Y₂ +ℤ H *ℤ Y₃ → pos 2 *ℤ (n *ℤ (pos 16 *ℤ X -ℤ z *ℤ W -ℤ p *ℤ Y)) ≡ pos 2 *ℤ S *ℤ Y₂ +ℤ pos 2 *ℤ H *ℤ Y₃ -ℤ pos 2 *ℤ (z *ℤ n -ℤ A) *ℤ W -ℤ pos 2 *ℤ (p *ℤ n -ℤ B) *ℤ Y
+errors n X A B S H z p W Y Y₂ Y₃ = name₁₂ n X A B S H z p W Y Y₂ Y₃ λ σ p₁ p₂ p₃ p₄ p₅ p₆ p₇ p₈ p₉ pa pb pc. simp (p₁, p₂, p₃, p₄, p₅, p₆, p₇, p₈, p₉, pa, pb, pc, reify, σ) (omega zarith)
+
+module _ (n X A B S H z p s h W Y Y₂ Y₃ : ℤ) (up : pos 0 ≺ n) (rz : Within (pos 2 *ℤ (z *ℤ n -ℤ A)) n) (rp : Within (pos 2 *ℤ (p *ℤ n -ℤ B)) n) (rs : Within (pos 2 *ℤ (s *ℤ n -ℤ S)) n) (rh : Within (pos 2 *ℤ (h *ℤ n -ℤ H)) n) where
+  close-by : pos 16 *ℤ (n *ℤ X) ≡ A *ℤ W +ℤ B *ℤ Y +ℤ S *ℤ Y₂ +ℤ H *ℤ Y₃ → Within W W → Within Y W → Within Y₂ W → Within Y₃ W → Within (pos 16 *ℤ X -ℤ z *ℤ W -ℤ p *ℤ Y) ((absℤ s +ℤ absℤ h +ℤ pos 2) *ℤ W)
+  close-by e w y y₂ y₃ =
+      cancel up (gather n (pos 16 *ℤ X -ℤ z *ℤ W -ℤ p *ℤ Y) W (absℤ s) (absℤ h) _ _ _ _ (errors n X A B S H z p W Y Y₂ Y₃ e)
+      (times rz w) (times rp y) (times (rounded S s (absℤ s) n (weak up) rs (own-abs s)) y₂) (times (rounded H h (absℤ h) n (weak up) rh (own-abs h)) y₃))
+
+-- ---- the coordinate of a piece
+nearly : (z : ℤ) (m : ℕ) → 0 < m → Within (pos 2 *ℤ (nearest z m *ℤ pos m -ℤ z)) (pos m)
+nearly z m h = of-abs (nearest-near z m h)
+
+pub coordinate : (b : Cubic) (n m : ℕ) (u D : ℤ) → 0 < n → Within (pos n *ℤ u -ℤ pos m *ℤ D) D → Within (pos 16 *ℤ bernstein b u (D -ℤ u) -ℤ sideAt b n m .centre *ℤ D ^ℤ 3 -ℤ sideAt b n m .axis *ℤ ((pos n *ℤ u -ℤ pos m *ℤ D) *ℤ D ^ℤ 2)) (sideAt b n m .box *ℤ D ^ℤ 3)
+unfolding sideAt
+coordinate b n m u D hn h =
+    let E : ℤ = pos n *ℤ u -ℤ pos m *ℤ D in
+    let n³ : ℕ = n * n * n in
+    let up : 0 < n³ = mul-pos (mul-pos hn hn) hn in
+    let A : ℤ = pos 16 *ℤ a0 b (pos n) (pos m) +ℤ pos 8 *ℤ a2 b (pos n) (pos m) in
+    let B : ℤ = pos 16 *ℤ a1 b (pos n) (pos m) +ℤ pos 12 *ℤ a3 b in
+    let S : ℤ = pos 8 *ℤ a2 b (pos n) (pos m) in
+    let H : ℤ = pos 4 *ℤ a3 b in
+    close-by (pos n³) (bernstein b u (D -ℤ u)) A B S H (nearest A n³) (nearest B n³) (nearest S n³) (nearest H n³)
+    (D ^ℤ 3) (E *ℤ D ^ℤ 2) ((pos 2 *ℤ E ^ℤ 2 -ℤ D ^ℤ 2) *ℤ D) (pos 4 *ℤ E ^ℤ 3 -ℤ pos 3 *ℤ E *ℤ D ^ℤ 2)
+    (pos-≺ up) (nearly A n³ up) (nearly B n³ up) (nearly S n³ up) (nearly H n³ up)
+    (parts (pos n³) (bernstein b u (D -ℤ u)) (a0 b (pos n) (pos m)) (a1 b (pos n) (pos m)) (a2 b (pos n) (pos m)) (a3 b) E D (cubic (b .b0) (b .b1) (b .b2) (b .b3) (pos n) (pos m) u D))
+    (cube E D h) (first E D h) (second E D h) (third E D h)

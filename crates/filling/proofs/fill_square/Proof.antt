@@ -1,0 +1,85 @@
+-- `filling::fill_square` meets its contract. Assumes nothing.
+use mathlib.Core.Path.{_≡_, refl, _∙_}
+use mathlib.Core.Bool.{cond, _&&_}
+use Prim.Native.Nat.{ℕ, _+_, _*_, _-_, _≤_, _<_}
+use native.Mathlib.Omega.{arith}
+use borrow.Author.Needs.{needs}
+use lib.Dec.{leb, ltb}
+use lib.ListN.{length, getD}
+use Rattle.filling.specs.Squares.{among, Drawn}
+use Rattle.filling.proofs.Rows.{one-row, no-row, row-past}
+use Rattle.filling.proofs.fill_square.Statement.{statement}
+use Rattle.filling.proofs.fill_square.Tie as tie
+use Rattle.filling.proofs.fill_square.Reads as reads
+use Rattle.filling.proofs.fill_square.Lts as lts
+use Rattle.filling.proofs.fill_row.Reads as fill-row-reads
+
+abbrev Inv-loop : tie.InvT-loop
+Inv-loop map₀ n c r w b end j₀ map j =
+    (end ≡ r + w) × (r ≤ j) × (j ≤ end) × (length map ≡ length map₀) × Drawn n map map₀ (λ i y x. cond (among c w i && (leb r y && ltb y j)) b x)
+
+abbrev μ-loop : tie.MeasureT-loop
+μ-loop map₀ n c r w b end j₀ map j = end - j
+
+add-end : tie.Need-add-end Inv-loop μ-loop
+add-end c = omega arith
+
+loop-holds : tie.Need-loop-holds Inv-loop μ-loop
+loop-holds c =
+    let a = c .before .args in
+    (refl, omega arith, omega arith, refl, record { cells = λ i y _ _. no-row (among (a .c) (a .w) i) (a .r) y (a .b) (getD (a .map .now) (y * a .n + i) 0); past = λ k h. refl })
+
+fill-row-requires : tie.Need-fill-row-requires Inv-loop μ-loop
+fill-row-requires c κs =
+    let s = c .before .before .before .before in
+    let l = c .before .before .loop in
+    (s .pre .0, omega arith, s .pre .1, omega (arith, l .inv .3, s .pre .3))
+
+add-j : tie.Need-add-j Inv-loop μ-loop
+add-j c = omega arith
+
+loop-less : tie.Need-loop-less Inv-loop μ-loop
+loop-less c = omega arith
+
+loop-again : tie.Need-loop-again Inv-loop μ-loop
+loop-again c =
+    let f = c .before .before .fill-row in
+    let l = c .before .before .before .before .before .loop in
+    let s = c .before .before .before .before .before .before .before in
+    let a = s .args in (
+      refl,
+      omega arith,
+      omega arith,
+      f .kept .0 ∙ l .inv .3,
+      record {
+        cells = λ i y i< y<.
+            rw (f .ensures)
+            (one-row (l .map) (a .n) (l .j) (a .c) (a .w) (a .b) i y i< (omega arith) y< (s .pre .1) (omega (arith, l .inv .3, s .pre .3)) (a .r) (getD (a .map .now) (y * a .n + i) 0) (omega arith) (l .inv .4 .cells i y i< y<));
+        past = λ k h. rw (f .ensures) (row-past (l .map) (a .n) (l .j) (a .c) (a .w) (a .b) k (omega arith) (s .pre .1) (omega (arith, l .inv .3, s .pre .3)) h ∙ l .inv .4 .past k h);
+      },
+    )
+
+same-length : tie.Need-same-length Inv-loop μ-loop
+same-length c = c .before .loop .inv .3
+
+returns : tie.Need-returns Inv-loop μ-loop
+returns c =
+    let l = c .before .loop in
+    let a = c .before .before .before .args in
+    let e : l .j ≡ a .r + a .w = omega arith in
+    record { cells = λ i y i< y<. rw e at (l .inv .4 .cells i y i< y<); past = l .inv .4 .past }
+
+pub fill-square-spec : {M : Type 1} → statement M
+fill-square-spec =
+    tie.close
+    (tie.spec
+    Inv-loop
+    μ-loop
+    add-end
+    loop-holds
+    fill-row-requires
+    add-j
+    loop-less
+    loop-again
+    same-length
+    returns)

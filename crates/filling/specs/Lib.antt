@@ -1,0 +1,3 @@
+-- Squares of a map, and four quarters that make one.
+pub mod Squares
+pub mod Quarters

@@ -1,0 +1,20 @@
+-- What drawing into a square of a map leaves of each cell, over what stood there. Assumes nothing.
+use mathlib.Core.Path.{_≡_}
+use mathlib.Core.Bool.{Bool, _&&_, cond}
+use mathlib.Core.List.{List}
+use Prim.Native.Nat.{ℕ, _+_, _*_, _≤_, _<_}
+use lib.Dec.{leb, ltb}
+use lib.ListN.{getD}
+
+-- is i one of the w numbers from c on?
+abbrev pub among : ℕ → ℕ → ℕ → Bool
+among c w i = leb c i && ltb i (c + w)
+
+-- cell (i, j) becomes f i j in the square of side w at column c and row r, and any other stays as it was
+abbrev pub over : (ℕ → ℕ → ℕ) → ℕ → ℕ → ℕ → ℕ → ℕ → ℕ → ℕ
+over f c r w i j old = cond (among c w i && among r w j) (f i j) old
+
+-- each cell of an n by n map, row by row, is what g makes of what it was, and what lies past the map is as it was
+pub record Drawn (n : ℕ) (new old : List ℕ) (g : ℕ → ℕ → ℕ → ℕ) : Type 0 where
+  pub cells : (i j : ℕ) → i < n → j < n → getD new (j * n + i) 0 ≡ g i j (getD old (j * n + i) 0)
+  pub past : (k : ℕ) → n * n ≤ k → getD new k 0 ≡ getD old k 0

@@ -1,0 +1,30 @@
+-- The trees of a job's edges from some edge on, as the code walks them. Assumes nothing.
+use mathlib.Core.Path.{_≡_, refl, ap, _∙_, subst}
+use mathlib.Core.Bool.{Bool, true, false}
+use mathlib.Core.List.{List, [], _∷_}
+use Prim.Native.Nat.{ℕ, suc, _+_, _*_, _-_, _≤_, _<_}
+use native.Mathlib.Omega.{arith}
+use lib.IntN.{ℤ}
+use Rattle.model.specs.Jobs.{edgeAt, edgesFrom}
+use Rattle.model.specs.Trees.{Tree, tree, trees}
+
+-- those of edges e to n − 1
+unfoldable pub treesFrom : ℤ → List ℤ → ℕ → ℕ → List Tree
+treesFrom T l n e = trees T (edgesFrom l (n - e) e)
+
+-- true where P holds, and false where it fails
+abbrev pub Says : Bool → Type 0 → Type 0
+Says true P = P
+Says false P = P → ⊥
+
+pub from-first : (T : ℤ) (l : List ℤ) (n : ℕ) → treesFrom T l n 0 ≡ trees T (edgesFrom l n 0)
+unfolding treesFrom
+from-first T l n = let z : n - 0 ≡ n = omega arith in rw z
+
+pub end-is : (T : ℤ) (l : List ℤ) (n e : ℕ) → e ≡ n → treesFrom T l n e ≡ []
+unfolding treesFrom edgesFrom
+end-is T l n e h = let z : n - e ≡ 0 = omega arith in rw z
+
+pub more-is : (T : ℤ) (l : List ℤ) (n e : ℕ) → e ≤ n → (e ≡ n → ⊥) → treesFrom T l n e ≡ tree T (edgeAt l e) ∷ treesFrom T l n (e + 1)
+unfolding treesFrom edgesFrom
+more-is T l n e h k = let z : n - e ≡ suc (n - (e + 1)) = omega arith in rw z

@@ -1,0 +1,2 @@
+-- What the loop over a job's places says at each turn.
+pub mod Turns

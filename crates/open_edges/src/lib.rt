@@ -1,0 +1,84 @@
+// The edges that are open for a cell: where their trees start in the store, and the loop that asks each of them and keeps those that are not
+// away, so that no part of the cell asks them again.
+ghost use mathlib.Core.Path.{_≡_};
+ghost use mathlib.Core.Bool.{true, false};
+ghost use mathlib.Core.List.{List};
+ghost use Prim.Native.Nat.{ℕ, _≤_};
+ghost use lib.ListN.{length, take};
+ghost use Rattle.model.specs.Trees.{Tree};
+ghost use Rattle.model.specs.Explore.{verdict, explore, exploreAll, inside};
+ghost use Rattle.inheritance.specs.Edges.{opened};
+ghost use Rattle.strip_tests.specs.PlainTests.{code};
+ghost use Rattle.search.specs.Held.{CellSized, cellAt, Enough};
+ghost use Rattle.open_edges.specs.Starts.{At, TreeAt, Starts, Forest, Holds, AnyHeld};
+
+// the answer of the tree that starts at place a
+fn ask(store: &[i32], a: usize, x: i64, y: i64, s: i64, r: i64, enough: u8) -> u8
+    requires { ⌜ TreeAt (now store) a × CellSized x y s r × Enough x y s r enough ⌝ }
+    ensures answer { λ e. ⌜ ((t : Tree) → At (now (store .entry)) a t → e ≡ code (explore (verdict r (cellAt x y s)) t)) ⌝ }
+{
+    let n = search::count_at(store, a + 6);
+    let b = a + 7 * n;
+    search::search(&store[a..b], x, y, s, r, enough)
+}
+
+// Whether some tree is inside, and if none is, how many are not away.
+pub struct Seen {
+    pub inside: bool,
+    pub kept: usize,
+}
+
+// asks the trees that start at the first `count` numbers of list, and keeps the starts of those that are not away
+pub fn explore_open(
+    store: &[i32],
+    list: &[usize; 64],
+    count: usize,
+    keep: &mut [usize; 64],
+    x: i64,
+    y: i64,
+    s: i64,
+    r: i64,
+) -> Seen
+    requires { ⌜ (count ≤ 64) × Forest (now store) (take count (now list)) × CellSized x y s r × (length (now list) ≡ 64) × (length (now keep) ≡ 64) ⌝ }
+    ensures long { λ a. ⌜ length (now (keep .exit)) ≡ 64 ⌝ }
+    ensures yes { λ a. ⌜ (a .inside ≡ true → (ts : List Tree) → Starts (now (store .entry)) (take count (now (list .entry))) ts → exploreAll (verdict r (cellAt x y s)) ts ≡ inside) ⌝ }
+    ensures no { λ a. ⌜ (a .inside ≡ false → (a .kept ≤ count) × ((ts : List Tree) → Starts (now (store .entry)) (take count (now (list .entry))) ts → (exploreAll (verdict r (cellAt x y s)) ts ≡ inside → ⊥) × Starts (now (store .entry)) (take (a .kept) (now (keep .exit))) (opened (verdict r (cellAt x y s)) ts))) ⌝ }
+{
+    let enough = search::enough_for(s, r);
+    let mut kept: usize = 0;
+    let mut k: usize = 0;
+    while k < count {
+        let a = list[k];
+        let answer = ask(store, a, x, y, s, r, enough);
+        if answer == 2 {
+            return Seen {
+                inside: true,
+                kept: 0,
+            };
+        }
+        k += 1;
+        if answer == 1 {
+            keep[kept] = a;
+            kept += 1;
+        }
+    }
+    Seen {
+        inside: false,
+        kept,
+    }
+}
+
+// where each edge's tree starts, from the subtree counts
+pub fn list_starts(store: &[i32], count: usize, list: &mut [usize; 64])
+    requires { ⌜ (count ≤ 64) × AnyHeld (now store) count × (length (now list) ≡ 64) ⌝ }
+    ensures long { λ _. ⌜ length (now (list .exit)) ≡ 64 ⌝ }
+    ensures starts { λ _. ⌜ ((ts : List Tree) → Holds (now (store .entry)) count ts → Starts (now (store .entry)) (take count (now (list .exit))) ts) ⌝ }
+{
+    let mut at: usize = 0;
+    let mut e: usize = 0;
+    while e < count {
+        list[e] = at;
+        at += 7 * search::count_at(store, at + 6);
+        e += 1;
+    }
+}

@@ -1,0 +1,64 @@
+-- What a job that is judged 0 has: each test of the limits passed. Assumes nothing.
+use mathlib.Core.Path.{_≡_, refl, sym, subst}
+use mathlib.Core.Bool.{Bool, true, false, cond, _&&_}
+use Prim.Native.Nat.{ℕ, suc, _*_, _≤_}
+use native.Mathlib.Omega.{arith}
+use lib.Dec.{T, leb, leb→le}
+use lib.IntN.{ℤ, pos, _-ℤ_}
+use lib.Signed.{leZ}
+use Rattle.model.specs.declared.Job.{Job}
+use Rattle.model.specs.Jobs.{between, coordinate, placed, counted, ranged, celled, judge}
+
+-- ---- tests that passed
+pub both : (a b : Bool) → (a && b) ≡ true → (a ≡ true) × (b ≡ true)
+both true b e = (refl, e)
+both false b e = (e, cc)
+
+pub le-of : (m n : ℕ) → leb m n ≡ true → m ≤ n
+le-of m n e = leb→le m n (subst T (sym e) tt)
+
+-- a check that gave 0 passed, and so did those after it
+pub passed : (b : Bool) (n k : ℕ) → cond b n (suc k) ≡ 0 → (b ≡ true) × (n ≡ 0)
+passed true n k e = (refl, e)
+passed false n k e = absurd (omega arith)
+
+pub record InRange (j : Job) : Type 0 where
+  pub x-in : coordinate (j .x) ≡ true
+  pub y-in : coordinate (j .y) ≡ true
+  pub n-in : between (pos 0) (pos 20) (j .n) ≡ true
+  pub m-in : between (pos 0) (pos 20) (j .m) ≡ true
+  pub reach-in : between (pos 1) (pos 1000000) (j .reach) ≡ true
+  pub grain-in : between (pos 1) (pos 100000) (j .grain) ≡ true
+  pub places-in : placed (8 * j .count) (j .places) ≡ true
+
+pub record Legal (j : Job) : Type 0 where
+  pub some : 1 ≤ j .count
+  pub few : j .count ≤ 64
+  pub in-range : InRange j
+  pub cell-fits : leZ (j .m) (j .n) ≡ true
+  pub few-cells : leZ (j .n -ℤ j .m) (pos 8) ≡ true
+
+pub is-counted : (j : Job) → counted j ≡ true → (1 ≤ j .count) × (j .count ≤ 64)
+unfolding counted
+is-counted j e = let h = both (leb 1 (j .count)) (leb (j .count) 64) e in (le-of 1 (j .count) (h .0), le-of (j .count) 64 (h .1))
+
+pub is-ranged : (j : Job) → ranged j ≡ true → InRange j
+unfolding ranged
+is-ranged j e =
+    let x = both (coordinate (j .x)) _ e in
+    let y = both (coordinate (j .y)) _ (x .1) in
+    let n = both (between (pos 0) (pos 20) (j .n)) _ (y .1) in
+    let m = both (between (pos 0) (pos 20) (j .m)) _ (n .1) in
+    let r = both (between (pos 1) (pos 1000000) (j .reach)) _ (m .1) in
+    let t = both (between (pos 1) (pos 100000) (j .grain)) _ (r .1) in
+    record { x-in = x .0; y-in = y .0; n-in = n .0; m-in = m .0; reach-in = r .0; grain-in = t .0; places-in = t .1 }
+
+pub legal : (j : Job) → judge j ≡ 0 → Legal j
+unfolding judge celled
+legal j e =
+    let a = passed (counted j) _ 1 e in
+    let b = passed (ranged j) _ 2 (a .1) in
+    let c = passed (celled j) 0 3 (b .1) in
+    let n = is-counted j (a .0) in
+    let m = both (leZ (j .m) (j .n)) (leZ (j .n -ℤ j .m) (pos 8)) (c .0) in
+    record { some = n .0; few = n .1; in-range = is-ranged j (b .0); cell-fits = m .0; few-cells = m .1 }

@@ -1,0 +1,2 @@
+-- What the readers' answers say of the sheet.
+pub mod Answers

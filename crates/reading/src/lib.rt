@@ -1,0 +1,463 @@
+// Reads a job sheet. Each reader takes the sheet and a position, and says what stands there and where the next one starts.
+use judging::judge;
+use model::Job;
+use model::Read;
+ghost use mathlib.Core.Path.{_≡_};
+ghost use mathlib.Core.Bool.{false};
+ghost use mathlib.Core.List.{[]};
+ghost use Prim.Native.Nat.{_≤_, _<_};
+ghost use lib.IntN.{pos, negℤ};
+ghost use lib.ListN.{length, drop, replicate};
+ghost use Rattle.model.specs.Jobs.{zeroJob};
+ghost use Rattle.model.specs.Numbers.{natural, number};
+ghost use Rattle.model.specs.Forms.{readForm};
+ghost use Rattle.model.specs.Sheets.{endForm, longest};
+ghost use Rattle.model.specs.Entries as entries;
+ghost use Rattle.sheet_text.specs.Forms.{marks};
+ghost use Rattle.reading.specs.Answers.{byteOf, digitOf, closed, keep, naturalGot, numberGot, lineGot, OptionalRead, EdgesRead, HeadSays, jobBy, headBy, refusedBy, answerOf};
+
+pub struct Natural {
+    pub found: bool,
+    pub value: u32,
+    pub next: usize,
+}
+
+pub struct Number {
+    pub found: bool,
+    pub value: i32,
+    pub next: usize,
+}
+
+// What a form's text holds: its numbers, in order.
+pub struct Line {
+    pub found: bool,
+    pub next: usize,
+    pub values: [i32; 8],
+}
+
+// The number of a line that may be left out, and where the next line starts.
+pub struct Optional {
+    pub next: usize,
+    pub value: i32,
+}
+
+// The edges of a sheet: how many, the numbers of the first 64, and where the next line starts.
+pub struct Edges {
+    pub next: usize,
+    pub count: usize,
+    pub values: [i32; 512],
+}
+
+// The lines before the edges: their numbers, and where the edges start.
+pub struct Head {
+    pub found: bool,
+    pub next: usize,
+    pub x: i32,
+    pub y: i32,
+    pub n: i32,
+    pub m: i32,
+    pub reach: i32,
+    pub grain: i32,
+}
+
+fn wide(b: u8) -> u32
+    ensures answer { λ r. ⌜ r ≡ b ⌝ }
+    ensures bound { λ r. ⌜ r < 256 ⌝ }
+{
+    b as u32
+}
+
+// The byte at i, or 256 past the end.
+fn byte_at(s: &[u8], i: usize) -> u32
+    ensures answer { λ r. ⌜ r ≡ byteOf (drop i (now (s .entry))) ⌝ }
+{
+    if i < s.len() { wide(s[i]) } else { 256 }
+}
+
+// The digit at i, or 10 where there is none.
+fn digit_at(s: &[u8], i: usize) -> u32
+    ensures answer { λ r. ⌜ r ≡ digitOf (drop i (now (s .entry))) ⌝ }
+{
+    let b = byte_at(s, i);
+    if b < 48 {
+        return 10;
+    }
+    if b > 57 {
+        return 10;
+    }
+    b - 48
+}
+
+// One digit that is no 0, and at most six more.
+fn natural_at(s: &[u8], at: usize) -> Natural
+    ensures answer { λ r. ⌜ naturalGot (now (s .entry)) r ≡ natural (drop at (now (s .entry))) ⌝ }
+    ensures within { λ r. ⌜ r .next ≤ length (now (s .entry)) ⌝ }
+{
+    let d = digit_at(s, at);
+    if d == 0 {
+        return Natural {
+            found: false,
+            value: 0,
+            next: 0,
+        };
+    }
+    if d >= 10 {
+        return Natural {
+            found: false,
+            value: 0,
+            next: 0,
+        };
+    }
+    let mut v = d;
+    let mut i = at + 1;
+    let mut k: usize = 0;
+    while k < 6 {
+        let e = digit_at(s, i);
+        if e >= 10 {
+            return Natural {
+                found: true,
+                value: v,
+                next: i,
+            };
+        }
+        v = v * 10 + e;
+        i += 1;
+        k += 1;
+    }
+    Natural {
+        found: true,
+        value: v,
+        next: i,
+    }
+}
+
+fn positive(v: u32) -> i32
+    requires small { ⌜ v < 10000000 ⌝ }
+    ensures answer { λ r. ⌜ r ≡ pos v ⌝ }
+{
+    v as i32
+}
+
+fn negative(v: u32) -> i32
+    requires small { ⌜ v < 10000000 ⌝ }
+    ensures answer { λ r. ⌜ r ≡ negℤ (pos v) ⌝ }
+{
+    -(v as i32)
+}
+
+// A lone 0, or a natural number with or without a minus before it.
+fn number_at(s: &[u8], at: usize) -> Number
+    ensures answer { λ r. ⌜ numberGot (now (s .entry)) r ≡ number (drop at (now (s .entry))) ⌝ }
+    ensures within { λ r. ⌜ r .next ≤ length (now (s .entry)) ⌝ }
+{
+    let b = byte_at(s, at);
+    if b == 48 {
+        return Number {
+            found: true,
+            value: 0,
+            next: at + 1,
+        };
+    }
+    if b == 45 {
+        let n = natural_at(s, at + 1);
+        if n.found {
+            return Number {
+                found: true,
+                value: negative(n.value),
+                next: n.next,
+            };
+        }
+        return Number {
+            found: false,
+            value: 0,
+            next: 0,
+        };
+    }
+    let n = natural_at(s, at);
+    if n.found {
+        return Number {
+            found: true,
+            value: positive(n.value),
+            next: n.next,
+        };
+    }
+    Number {
+        found: false,
+        value: 0,
+        next: 0,
+    }
+}
+
+// A form's text: its bytes, with a number for each #.
+fn form_at(s: &[u8], at: usize, form: &[u8]) -> Line
+    requires start { ⌜ at ≤ length (now s) ⌝ }
+    requires few { ⌜ marks (now form) ≤ 8 ⌝ }
+    ensures answer { λ r. ⌜ lineGot (now (form .entry)) (now (s .entry)) r ≡ readForm (now (form .entry)) [] (drop at (now (s .entry))) ⌝ }
+    ensures within { λ r. ⌜ (r .next ≤ length (now (s .entry))) × (length (r .values) ≡ 8) ⌝ }
+{
+    let mut values = [0i32; 8];
+    let mut count: usize = 0;
+    let mut i = at;
+    let mut j: usize = 0;
+    while j < form.len() {
+        let f = wide(form[j]);
+        j += 1;
+        if f == 35 {
+            let n = number_at(s, i);
+            if !n.found {
+                return Line {
+                    found: false,
+                    next: 0,
+                    values,
+                };
+            }
+            let v = n.value;
+            values[count] = v;
+            count += 1;
+            i = n.next;
+        } else {
+            let b = byte_at(s, i);
+            if b != f {
+                return Line {
+                    found: false,
+                    next: 0,
+                    values,
+                };
+            }
+            i += 1;
+        }
+    }
+    Line {
+        found: true,
+        next: i,
+        values,
+    }
+}
+
+// A line of one number that may be left out, and then says `other`.
+fn optional_at(s: &[u8], at: usize, form: &[u8], other: i32) -> Optional
+    requires start { ⌜ at ≤ length (now s) ⌝ }
+    requires one { ⌜ marks (now form) ≡ 1 ⌝ }
+    ensures answer { λ r. ⌜ OptionalRead (now (form .entry)) other (now (s .entry)) at r ⌝ }
+{
+    let line = form_at(s, at, form);
+    if line.found {
+        let values = line.values;
+        let value = values[0];
+        let next = line.next;
+        return Optional { next, value };
+    }
+    Optional {
+        next: at,
+        value: other,
+    }
+}
+
+// The last line is here, and nothing after it.
+fn end_at(s: &[u8], at: usize) -> bool
+    requires start { ⌜ at ≤ length (now s) ⌝ }
+    ensures answer { λ r. ⌜ r ≡ closed (readForm endForm [] (drop at (now (s .entry)))) ⌝ }
+{
+    let end = form_at(s, at, b")\n");
+    if end.found {
+        return end.next == s.len();
+    }
+    false
+}
+
+fn nothing_kept() -> [i32; 512]
+    ensures answer { λ r. ⌜ r ≡ replicate 512 (pos 0) ⌝ }
+{
+    [0i32; 512]
+}
+
+// The numbers of one more edge, after `count` edges. 64 edges are kept.
+fn kept(values: [i32; 512], count: usize, line: [i32; 8]) -> [i32; 512]
+    requires sizes { ⌜ (length values ≡ 512) × (length line ≡ 8) ⌝ }
+    ensures answer { λ r. ⌜ r ≡ keep values count line ⌝ }
+{
+    let mut out = values;
+    if count >= 64 {
+        return out;
+    }
+    let base = count * 8;
+    let mut j: usize = 0;
+    while j < 8 {
+        let v = line[j];
+        let k = base + j;
+        out[k] = v;
+        j += 1;
+    }
+    out
+}
+
+// The edge lines, as many as there are.
+fn edges_at(s: &[u8], at: usize) -> Edges
+    requires start { ⌜ at ≤ length (now s) ⌝ }
+    requires short { ⌜ length (now s) ≤ longest ⌝ }
+    ensures answer { λ r. ⌜ EdgesRead (now (s .entry)) at r ⌝ }
+{
+    let mut values = nothing_kept();
+    let mut count: usize = 0;
+    let mut i = at;
+    while i < s.len() {
+        let line = form_at(s, i, b"(edge (# #) (# #) (# #) (# #))\n");
+        if line.found {
+            let numbers = line.values;
+            let more = kept(values, count, numbers);
+            values = more;
+            count += 1;
+            i = line.next;
+        } else {
+            return Edges {
+                next: i,
+                count,
+                values,
+            };
+        }
+    }
+    Edges {
+        next: i,
+        count,
+        values,
+    }
+}
+
+fn no_head() -> Head
+    ensures answer { λ r. ⌜ r .found ≡ false ⌝ }
+{
+    Head {
+        found: false,
+        next: 0,
+        x: 0,
+        y: 0,
+        n: 0,
+        m: 0,
+        reach: 0,
+        grain: 0,
+    }
+}
+
+fn head_by(plate: [i32; 8], cell: [i32; 8], reach: [i32; 8], grain: Optional) -> Head
+    ensures answer { λ r. ⌜ r ≡ headBy plate cell reach (grain .value) (grain .next) ⌝ }
+{
+    let x = plate[0];
+    let y = plate[1];
+    let n = plate[2];
+    let m = cell[0];
+    let r = reach[0];
+    Head {
+        found: true,
+        next: grain.next,
+        x,
+        y,
+        n,
+        m,
+        reach: r,
+        grain: grain.value,
+    }
+}
+
+// The lines before the edges, each with its form: a further kind of line is one more step here.
+fn head_at(s: &[u8]) -> Head
+    requires short { ⌜ length (now s) ≤ longest ⌝ }
+    ensures answer { λ r. ⌜ HeadSays (now (s .entry)) r ⌝ }
+{
+    let job = form_at(s, 0, b"(job\n");
+    if !job.found {
+        return no_head();
+    }
+    let a = job.next;
+    let plate = form_at(s, a, b"(plate # # #)\n");
+    if !plate.found {
+        return no_head();
+    }
+    let b = plate.next;
+    let cell = form_at(s, b, b"(cell #)\n");
+    if !cell.found {
+        return no_head();
+    }
+    let c = cell.next;
+    let reach = form_at(s, c, b"(reach #)\n");
+    if !reach.found {
+        return no_head();
+    }
+    let d = reach.next;
+    let grain = optional_at(s, d, b"(grain #)\n", 10);
+    let p = plate.values;
+    let q = cell.values;
+    let r = reach.values;
+    head_by(p, q, r, grain)
+}
+
+fn zero_job() -> Job
+    ensures answer { λ r. ⌜ r ≡ zeroJob ⌝ }
+{
+    let places = nothing_kept();
+    Job {
+        x: 0,
+        y: 0,
+        n: 0,
+        m: 0,
+        reach: 0,
+        grain: 0,
+        count: 0,
+        places,
+    }
+}
+
+fn refused(refusal: u8) -> Read
+    ensures answer { λ r. ⌜ r ≡ refusedBy refusal ⌝ }
+{
+    let job = zero_job();
+    Read { refusal, job }
+}
+
+// The job where it is legal, or its refusal.
+fn judged(job: Job) -> Read
+    ensures answer { λ r. ⌜ r ≡ answerOf job ⌝ }
+{
+    let refusal = judge(job);
+    if refusal == 0 {
+        return Read { refusal: 0, job };
+    }
+    refused(refusal)
+}
+
+fn job_by(head: Head, count: usize, places: [i32; 512]) -> Job
+    ensures answer { λ r. ⌜ r ≡ jobBy head count places ⌝ }
+{
+    Job {
+        x: head.x,
+        y: head.y,
+        n: head.n,
+        m: head.m,
+        reach: head.reach,
+        grain: head.grain,
+        count,
+        places,
+    }
+}
+
+// Reads a job sheet.
+pub fn read(sheet: &[u8]) -> Read
+    ensures answer { λ r. ⌜ r ≡ entries.read (now (sheet .entry)) ⌝ }
+{
+    if sheet.len() > 8192 {
+        return refused(1);
+    }
+    let head = head_at(sheet);
+    if !head.found {
+        return refused(1);
+    }
+    let at = head.next;
+    let edges = edges_at(sheet, at);
+    let next = edges.next;
+    if !end_at(sheet, next) {
+        return refused(1);
+    }
+    let count = edges.count;
+    let places = edges.values;
+    let job = job_by(head, count, places);
+    judged(job)
+}

@@ -1,0 +1,2 @@
+-- Parts of the store that hold a tree.
+pub mod Held

@@ -1,0 +1,82 @@
+// A cell's answer from one edge's part of the store, by recursion on the two subtrees of a node. Answers are 0 away, 1 maybe, 2 inside, as
+// `code` gives them, so that joined the larger holds.
+ghost use mathlib.Core.Path.{_≡_};
+ghost use mathlib.Core.Bool.{cond};
+ghost use Prim.Native.Nat.{ℕ, _≤_, _<_};
+ghost use lib.IntN.{ℤ, pos, natAbs};
+ghost use lib.Signed.{nonNeg};
+ghost use lib.Dec.{T, ltb};
+ghost use lib.ListN.{length, getD};
+ghost use Rattle.model.specs.Trees.{Tree};
+ghost use Rattle.model.specs.Store.{flatten};
+ghost use Rattle.model.specs.Explore.{verdict, explore};
+ghost use Rattle.ranges.specs.Sizes.{Sized, AllSized};
+ghost use Rattle.strip_tests.specs.PlainTests.{code};
+ghost use Rattle.search.specs.Held.{CellSized, stripAt, cellAt, TreeOf, Enough};
+
+// a number of the store, in 64 bits
+pub fn wide_at(s: &[i32], i: usize) -> i64
+    requires { ⌜ i < length (now s) ⌝ }
+    ensures number { λ r. ⌜ r ≡ getD (now (s .entry)) i (pos 0) ⌝ }
+{
+    s[i] as i64
+}
+
+// a number of the store that is a count of nodes
+pub fn count_at(s: &[i32], i: usize) -> usize
+    requires { ⌜ (i < length (now s)) × T (nonNeg (getD (now s) i (pos 0))) ⌝ }
+    ensures count { λ r. ⌜ r ≡ natAbs (getD (now (s .entry)) i (pos 0)) ⌝ }
+{
+    wide_at(s, i) as usize
+}
+
+// the answer of the first node of part by itself
+fn own(part: &[i32], x: i64, y: i64, s: i64, r: i64) -> u8
+    requires { ⌜ (7 ≤ length (now part)) × Sized (stripAt (now part)) × CellSized x y s r ⌝ }
+    ensures answer { λ a. ⌜ a ≡ code (verdict r (cellAt x y s) (stripAt (now (part .entry)))) ⌝ }
+{
+    let wx = x - wide_at(part, 0);
+    let wy = y - wide_at(part, 1);
+    let p = wide_at(part, 2);
+    let q = wide_at(part, 3);
+    let a = wide_at(part, 4) + s;
+    let b = wide_at(part, 5) + s;
+    strip_tests::judge(wx, wy, p, q, a, b, r)
+}
+
+fn join(l: u8, r: u8) -> u8
+    ensures larger { λ a. ⌜ a ≡ cond (ltb l r) r l ⌝ }
+{
+    if l < r { r } else { l }
+}
+
+// the answer of the tree that part holds. No node answers above enough
+pub fn search(part: &[i32], x: i64, y: i64, s: i64, r: i64, enough: u8) -> u8
+    requires { ⌜ TreeOf (now part) × CellSized x y s r × Enough x y s r enough ⌝ }
+    ensures answer { λ a. ⌜ ((t : Tree) → AllSized t → now (part .entry) ≡ flatten t → a ≡ code (explore (verdict r (cellAt x y s)) t)) ⌝ }
+{
+    let here = own(part, x, y, s, r);
+    if here != 1 {
+        return here;
+    }
+    let n = count_at(part, 6);
+    if n == 1 {
+        return 1;
+    }
+    let nl = count_at(part, 13);
+    let mid = 7 + 7 * nl;
+    let left = search(&part[7..mid], x, y, s, r, enough);
+    if enough <= left {
+        return left;
+    }
+    let right = search(&part[mid..], x, y, s, r, enough);
+    join(left, right)
+}
+
+// 1 where the cell alone is too wide for a strip to be inside, else 2
+pub fn enough_for(s: i64, r: i64) -> u8
+    requires { ⌜ (natAbs s ≤ 134217728) × T (nonNeg s) × (natAbs r ≤ 16777216) ⌝ }
+    ensures stop { λ e. ⌜ ((x y : ℤ) → Enough x y s r e) ⌝ }
+{
+    if r * r <= 2 * s * s { 1 } else { 2 }
+}

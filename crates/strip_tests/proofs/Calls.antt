@@ -1,0 +1,70 @@
+-- What the tests' functions return, as numbers made of numbers made, with their bounds. Assumes nothing.
+use mathlib.Core.Path.{_≡_, refl, sym, ap, _∙_, subst}
+use mathlib.Core.Bool.{Bool, true, false, cond}
+use Prim.Native.Nat.{ℕ, zero, suc, _+_, _*_, _≤_, _<_, _^_, zero-le}
+use native.Mathlib.Nat.{le-refl, le-trans, mul-le-mul, add-le-add}
+use native.Mathlib.Omega.{arith}
+use lib.Dec.{T, ltb, leb, leb→le}
+use lib.IntN.{ℤ, pos, negsuc, negℤ, natAbs, _+ℤ_, _-ℤ_, _*ℤ_}
+use lib.Signed.{ltZ, nonNeg}
+use mir.Syntax.{w64}
+use mir.Val.{SFits, toZ, ofZ}
+use borrow.Author.Tests.{ltb-true, ltb-false}
+use Rattle.integers.specs.Signed.{Made, called, back, natAbs-add, natAbs-neg}
+use Rattle.integers.specs.Absolute.{absℤ}
+use Rattle.model.specs.Explore.{squares}
+use Rattle.strip_tests.specs.Limits.{NodeSized, SpanSized}
+use Rattle.strip_tests.specs.PlainTests.{excessBy, mostBy, capBy}
+
+abs-size : (x : ℤ) → natAbs (absℤ x) ≡ natAbs x
+unfolding absℤ
+abs-size x = refl
+
+pub abs-of : {u x v : ℤ} {B : ℕ} → Made u x B → v ≡ absℤ (toZ w64 (ofZ w64 u)) → T (ltb B (2 ^ 63)) → Made v (absℤ x) B
+abs-of {u} {x} {v} {B} m e t = called (e ∙ ap absℤ (back m)) (rw (abs-size x) (m .within)) t
+
+excess-size : (a e : ℤ) (A E : ℕ) → natAbs a ≤ A → natAbs e ≤ E → (t : Bool) → natAbs (cond t (pos 0) (a -ℤ e)) ≤ A + E
+excess-size a e A E h k true = omega arith
+excess-size a e A E h k false = le-trans (natAbs-add a (negℤ e)) (add-le-add h (rw natAbs-neg k))
+
+pub excess-of : {u v a e w : ℤ} {A E : ℕ} → Made u a A → Made v e E → w ≡ excessBy (toZ w64 (ofZ w64 u)) (toZ w64 (ofZ w64 v)) → T (ltb (A + E) (2 ^ 63)) → Made w (excessBy a e) (A + E)
+excess-of {u} {v} {a} {e} {w} {A} {E} m n h t = called (rw (back m, back n) at h) (excess-size a e A E (m .within) (n .within) (ltZ a e)) t
+
+most-size : (a b : ℤ) (B : ℕ) → natAbs a ≤ B → natAbs b ≤ B → (t : Bool) → natAbs (cond t b a) ≤ B
+most-size a b B h k true = k
+most-size a b B h k false = h
+
+pub most-of : {u v a b w : ℤ} {B : ℕ} → Made u a B → Made v b B → w ≡ mostBy (toZ w64 (ofZ w64 u)) (toZ w64 (ofZ w64 v)) → T (ltb B (2 ^ 63)) → Made w (mostBy a b) B
+most-of {u} {v} {a} {b} {w} {B} m n h t = called (rw (back m, back n) at h) (most-size a b B (m .within) (n .within) (ltZ a b)) t
+
+-- the reach of the upright boxes, from the sizes of a node
+pub span-of : {wx wy p q a b r : ℤ} → NodeSized wx wy p q a b r → SpanSized (absℤ wx) (absℤ wy) (absℤ p +ℤ a) (absℤ q +ℤ b) r
+span-of {wx} {wy} {p} {q} {a} {b} n = record {
+  ax-size = rw (abs-size wx) (n .wx-size);
+  ay-size = rw (abs-size wy) (n .wy-size);
+  ex-size = omega (arith, natAbs-add (absℤ p) a, abs-size p, n .p-size, n .a-size);
+  ey-size = omega (arith, natAbs-add (absℤ q) b, abs-size q, n .q-size, n .b-size);
+  span-reach = n .node-reach .r-size;
+}
+
+-- ---- squares
+pub squares-is : (p q : ℤ) → squares p q ≡ pos (natAbs p * natAbs p + natAbs q * natAbs q)
+squares-is (pos m) (pos n) = refl
+squares-is (pos m) (negsuc n) = refl
+squares-is (negsuc m) (pos n) = refl
+squares-is (negsuc m) (negsuc n) = refl
+
+-- the larger of two numbers not below 0
+pub record Low (p q : ℤ) : Type 0 where
+  pub is-nonneg : T (nonNeg (mostBy (absℤ p) (absℤ q)))
+  pub is-low : natAbs (mostBy (absℤ p) (absℤ q)) * natAbs (mostBy (absℤ p) (absℤ q)) ≤ natAbs (squares p q)
+
+low′ : (a b : ℕ) (t : Bool) → T (nonNeg (cond t (pos b) (pos a))) × (natAbs (cond t (pos b) (pos a)) * natAbs (cond t (pos b) (pos a)) ≤ a * a + b * b)
+low′ a b true = (tt, omega arith)
+low′ a b false = (tt, omega arith)
+
+pub low : (p q : ℤ) → Low p q
+unfolding absℤ
+low p q =
+    let h = low′ (natAbs p) (natAbs q) (ltb (natAbs p) (natAbs q)) in
+    record { is-nonneg = h .0; is-low = rw (squares-is p q) (h .1) }

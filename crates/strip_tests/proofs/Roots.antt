@@ -1,0 +1,107 @@
+-- A number is beyond r times a root where the square is at most that of a quotient. Assumes nothing.
+use mathlib.Core.Path.{_≡_, refl, sym, ap, _∙_, subst}
+use mathlib.Core.Bool.{Bool, true, false, cond}
+use Prim.Native.Nat.{ℕ, zero, suc, _+_, _*_, _-_, _/_, _%_, _≤_, _<_}
+use native.Mathlib.Nat.{le-trans, mul-le-mul, le-refl, div-add-mod', mod-lt}
+use native.Mathlib.Decide.{decLe}
+use native.Mathlib.Omega.{arith}
+use borrow.Author.Tests.{ltb-true, ltb-false, le-ltb, lt-ltb}
+use lib.Dec.{T, ltb, leb, leb→le, le→leb, ltb→lt, lt→ltb, nltb→le, nleb→lt}
+use lib.IntN.{ℤ, pos, negsuc, natAbs, _-ℤ_, _*ℤ_}
+use lib.Signed.{ltZ, leZ, quotZ}
+use Rattle.strip_tests.specs.PlainTests.{capBy}
+use Rattle.verdicts.specs.Answers.{clash}
+use Rattle.model.specs.Roots.{root}
+use Rattle.verdicts.specs.Roots.{root-reaches, root-least}
+
+-- with j = n / d: d L ≤ n just where L ≤ j
+quotient-up : (n d l : ℕ) → 0 < d → d * l < suc n → l ≤ n / d
+quotient-up n d l h k = go (n / d) (omega (arith, div-add-mod' n d, mod-lt n h))
+  where
+    go : (j : ℕ) → d * l < d * j + d → l ≤ j
+    go j m = elim (decLe l j) [ yes p ↦ p | no p ↦ absurd (let q : d * suc j ≤ d * l = mul-le-mul (le-refl d) (omega arith) in omega arith) ]
+
+quotient-down : (n d l : ℕ) → l ≤ n / d → d * l < suc n
+quotient-down n d l k = let m : d * l ≤ d * (n / d) = mul-le-mul (le-refl d) k in omega (arith, div-add-mod' n d)
+
+abbrev pub capped : ℕ → ℕ
+capped j = cond (ltb j 1073741824) j 1073741824
+
+capped-up : (l j : ℕ) → l ≤ 1073741824 → l ≤ j → l ≤ capped j
+capped-up l j h k = go (ltb j 1073741824)
+  where
+    go : (t : Bool) → l ≤ cond t j 1073741824
+    go true = k
+    go false = h
+
+capped-down : (j : ℕ) → capped j ≤ j
+capped-down j = go (ltb j 1073741824) refl
+  where
+    go : (t : Bool) → ltb j 1073741824 ≡ t → cond t j 1073741824 ≤ j
+    go true e = le-refl j
+    go false e = ltb-false j 1073741824 e
+
+same : (a b : Bool) → (T a → T b) → (T b → T a) → a ≡ b
+same true true f g = refl
+same false false f g = refl
+same true false f g = absurd (f tt)
+same false true f g = absurd (g tt)
+
+pub beyond-law : (n d m : ℕ) → 0 < d → m ≤ 1152921504606846976 → leb m (capped (n / d) * capped (n / d)) ≡ ltb (d * root m) (suc n)
+beyond-law n d m hd hm = same (leb m (k * k)) (ltb (d * root m) (suc n))
+    (λ t. lt→ltb (d * root m) (suc n) (quotient-down n d (root m) (le-trans (root-least m k (leb→le m (k * k) t)) (capped-down j))))
+    (λ t. le→leb m (k * k) (le-trans (root-reaches m) (square (capped-up (root m) j (root-least m 1073741824 hm) (quotient-up n d (root m) hd (ltb→lt (d * root m) (suc n) t))))))
+  where
+    j : ℕ
+    j = n / d
+
+    k : ℕ
+    k = capped j
+
+    square : {a b : ℕ} → a ≤ b → a * a ≤ b * b
+    square h = mul-le-mul h h
+
+-- a whole number up to the root fails the test at once
+pub short-law : (n d m low : ℕ) → low * low ≤ m → n ≤ d * low → ltb (d * root m) n ≡ false
+short-law n d m low h k = le-ltb (d * root m) n (le-trans k (mul-le-mul (le-refl d) (under low (root m) (le-trans h (root-reaches m)))))
+  where
+    under : (a b : ℕ) → a * a ≤ b * b → a ≤ b
+    under a b h = elim (decLe a b) [ yes p ↦ p | no p ↦ absurd (let q : suc b * suc b ≤ a * a = mul-le-mul (omega arith) (omega arith) in omega arith) ]
+
+-- ---- over ℤ, as the code has them
+cap-pos : (j : ℕ) → capBy (pos j) ≡ pos (capped j)
+cap-pos j = go (ltb j 1073741824)
+  where
+    go : (t : Bool) → cond t (pos j) (pos 1073741824) ≡ pos (cond t j 1073741824)
+    go true = refl
+    go false = refl
+
+capped-size : (j : ℕ) → capped j ≤ 1073741824
+capped-size j = go (ltb j 1073741824) refl
+  where
+    go : (t : Bool) → ltb j 1073741824 ≡ t → cond t j 1073741824 ≤ 1073741824
+    go true e = omega (arith, ltb-true j 1073741824 e)
+    go false e = omega arith
+
+quotient : (n d : ℕ) → capBy (quotZ (pos (suc n) -ℤ pos 1) (pos d)) ≡ pos (capped (n / d))
+quotient n d = ap (λ z. capBy (quotZ z (pos d))) (less n) ∙ cap-pos (n / d)
+  where
+    less : (n : ℕ) → pos (suc n) -ℤ pos 1 ≡ pos n
+    less n = rw (le-ltb (suc n) 1 (omega arith)) (ap pos (omega arith))
+
+pub record Asked (x : ℤ) (d m : ℕ) : Type 0 where
+  pub size : natAbs (capBy (quotZ (x -ℤ pos 1) (pos d))) ≤ 1073741824
+  pub answer : leZ (pos m) (capBy (quotZ (x -ℤ pos 1) (pos d)) *ℤ capBy (quotZ (x -ℤ pos 1) (pos d))) ≡ ltZ (pos d *ℤ pos (root m)) x
+
+pub asked : (x : ℤ) (d m low : ℕ) → 0 < d → m ≤ 1152921504606846976 → ltZ (pos d *ℤ pos low) x ≡ true → Asked x d m
+asked (pos zero) d m low h k e = absurd (omega (arith, ltb-true (d * low) 0 e))
+asked (pos (suc n)) d m low h k e =
+    record {
+      size = subst (λ z. natAbs z ≤ 1073741824) (sym (quotient n d)) (capped-size (n / d));
+      answer = subst (λ z. leZ (pos m) (z *ℤ z) ≡ ltZ (pos d *ℤ pos (root m)) (pos (suc n))) (sym (quotient n d)) (beyond-law n d m h k);
+    }
+asked (negsuc n) d m low h k e = clash (cc)
+
+pub refused : (x : ℤ) (d m low : ℕ) → low * low ≤ m → ltZ (pos d *ℤ pos low) x ≡ false → false ≡ ltZ (pos d *ℤ pos (root m)) x
+refused (pos n) d m low h e = sym (short-law n d m low h (ltb-false (d * low) n e))
+refused (negsuc n) d m low h e = refl

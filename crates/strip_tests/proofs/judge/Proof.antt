@@ -1,0 +1,160 @@
+use Rattle.integers.specs.Signed.{Made, called, sized, arg, arg-pos, lit, plus, times, minus, over, widen, back, test-lt, neg-abs, pos-abs, above-zero}
+use Rattle.strip_tests.proofs.Calls.{span-of, abs-of, excess-of, most-of, squares-is, low}
+use lib.IntN.{ℤ, pos, natAbs, _+ℤ_}
+use mathlib.Core.Path.{_≡_, refl, _∙_, sym}
+use mir.Facts.{toZ-ofZ}
+use Rattle.integers.specs.Absolute.{absℤ}
+use mathlib.Core.Bool.{Bool, true, false, _||_}
+use Rattle.model.specs.Explore.{judge}
+use Rattle.verdicts.specs.Answers.{clash}
+use Rattle.strip_tests.specs.PlainTests.{code, insideBy, apartBy, slantedBy}
+use borrow.Author.Needs.{needs}
+use Rattle.strip_tests.proofs.judge.Statement.{statement}
+use Rattle.strip_tests.proofs.judge.Tie as tie
+use Rattle.strip_tests.proofs.judge.Reads as reads
+use Rattle.strip_tests.proofs.judge.Lts as lts
+use Rattle.strip_tests.proofs.abs.Reads as abs-reads
+use Rattle.strip_tests.proofs.apart.Reads as apart-reads
+use Rattle.strip_tests.proofs.inside.Reads as inside-reads
+use Rattle.strip_tests.proofs.slanted.Reads as slanted-reads
+
+module _ (c : tie.Start) where
+  wx : Made (c .args .wx) (c .args .wx) 1073741824
+  wx = arg (c .pre .wx-size) (c .fits .wx)
+
+  wy : Made (c .args .wy) (c .args .wy) 1073741824
+  wy = arg (c .pre .wy-size) (c .fits .wy)
+
+  p : Made (c .args .p) (c .args .p) 536870912
+  p = arg (c .pre .p-size) (c .fits .p)
+
+  q : Made (c .args .q) (c .args .q) 536870912
+  q = arg (c .pre .q-size) (c .fits .q)
+
+  a : Made (c .args .a) (c .args .a) 268435456
+  a = arg (c .pre .a-size) (c .fits .a)
+
+  b : Made (c .args .b) (c .args .b) 268435456
+  b = arg (c .pre .b-size) (c .fits .b)
+
+  r : Made (c .args .r) (c .args .r) 16777216
+  r = arg (c .pre .node-reach .r-size) (c .fits .r)
+
+ax : (c : tie.After-abs) → Made (c .abs .result) (absℤ (c .before .args .wx)) 1073741824
+ax c = abs-of (wx (c .before)) (c .abs .ensures) tt
+
+ay : (c : tie.After-abs2) → Made (c .abs2 .result) (absℤ (c .before .before .args .wy)) 1073741824
+ay c = abs-of (wy (c .before .before)) (c .abs2 .ensures) tt
+
+ap : (c : tie.After-abs3) → Made (c .abs3 .result) (absℤ (c .before .before .before .args .p)) 536870912
+ap c = abs-of (p (c .before .before .before)) (c .abs3 .ensures) tt
+
+aq : (c : tie.After-abs4) → Made (c .abs4 .result) (absℤ (c .before .before .before .before .args .q)) 536870912
+aq c = abs-of (q (c .before .before .before .before)) (c .abs4 .ensures) tt
+
+-- the three tests, as the code knows their answers
+module _ (c : tie.After-inside) where
+  abbrev start : tie.Start
+  start = c .before .before .before .before .before
+
+  inside-is : c .inside .result ≡ insideBy (absℤ (start .args .wx)) (absℤ (start .args .wy)) (absℤ (start .args .p) +ℤ start .args .a) (absℤ (start .args .q) +ℤ start .args .b) (start .args .r)
+  inside-is = rw (back (ax (c .before .before .before .before)), back (ay (c .before .before .before)), back (plus (ap (c .before .before)) (a (c .before .before .before .before .before)) tt), back (plus (aq (c .before)) (b (c .before .before .before .before .before)) tt), back (r (c .before .before .before .before .before))) at (c .inside .ensures)
+
+module _ (c : tie.After-apart) where
+  abbrev startA : tie.Start
+  startA = c .before .before .before .before .before .before .before
+
+  apart-is : c .apart .result ≡ apartBy (absℤ (startA .args .wx)) (absℤ (startA .args .wy)) (absℤ (startA .args .p) +ℤ startA .args .a) (absℤ (startA .args .q) +ℤ startA .args .b) (startA .args .r)
+  apart-is = rw (back (ax (c .before .before .before .before .before .before)), back (ay (c .before .before .before .before .before)), back (plus (ap (c .before .before .before .before)) (a (c .before .before .before .before .before .before .before)) tt), back (plus (aq (c .before .before .before)) (b (c .before .before .before .before .before .before .before)) tt), back (r (c .before .before .before .before .before .before .before))) at (c .apart .ensures)
+
+module _ (c : tie.After-slanted) where
+  abbrev startS : tie.Start
+  startS = c .before .before .before .before .before .before .before .before .before
+
+  slanted-is : c .slanted .result ≡ slantedBy (startS .args .wx) (startS .args .wy) (startS .args .p) (startS .args .q) (startS .args .a) (startS .args .b) (startS .args .r)
+  slanted-is = rw (back (wx startS), back (wy startS), back (p startS), back (q startS), back (a startS), back (b startS), back (r startS)) at (c .slanted .ensures)
+
+by-inside : (i w : Bool) → i ≡ true → 2 ≡ code (judge i w)
+by-inside true w e = refl
+by-inside false w e = clash (cc)
+
+by-apart : (i a s : Bool) → i ≡ false → a ≡ true → 0 ≡ code (judge i (a || s))
+by-apart false true s e f = refl
+by-apart true a s e f = clash (cc)
+by-apart false false s e f = clash (cc)
+
+by-slanted : (i a s : Bool) → i ≡ false → a ≡ false → s ≡ true → 0 ≡ code (judge i (a || s))
+by-slanted i a s e f g = rw (e, f, g)
+
+by-none : (i a s : Bool) → i ≡ false → a ≡ false → s ≡ false → 1 ≡ code (judge i (a || s))
+by-none i a s e f g = rw (e, f, g)
+
+-- src/lib.rt:81:9
+abs-requires : tie.Need-abs-requires
+abs-requires c κs = sized 4000000000000000000 (wx c) tt
+
+-- src/lib.rt:82:9
+abs-requires-2 : tie.Need-abs-requires-2
+abs-requires-2 c κs = sized 4000000000000000000 (wy (c .before)) tt
+
+-- src/lib.rt:83:14
+abs-requires-3 : tie.Need-abs-requires-3
+abs-requires-3 c κs = sized 4000000000000000000 (p (c .before .before)) tt
+
+-- src/lib.rt:83:14
+add-ex : tie.Need-add-ex
+add-ex c = (plus (ap c) (a (c .before .before .before)) tt) .fits
+
+-- src/lib.rt:84:14
+abs-requires-4 : tie.Need-abs-requires-4
+abs-requires-4 c κs = sized 4000000000000000000 (q (c .before .before .before)) tt
+
+-- src/lib.rt:84:14
+add-ey : tie.Need-add-ey
+add-ey c = (plus (aq c) (b (c .before .before .before .before)) tt) .fits
+
+-- src/lib.rt:85:8
+inside-requires : tie.Need-inside-requires
+inside-requires c κs = rw (back (ax (c .before .before .before)), back (ay (c .before .before)), back (plus (ap (c .before)) (a (c .before .before .before .before)) tt), back (plus (aq c) (b (c .before .before .before .before)) tt), back (r (c .before .before .before .before))) (span-of ((c .before .before .before .before) .pre))
+
+-- src/lib.rt:86:9
+returns : tie.Need-returns
+returns c = by-inside _ _ (sym (inside-is (c .before)) ∙ c .if1 .taken)
+
+-- src/lib.rt:88:8
+apart-requires : tie.Need-apart-requires
+apart-requires c κs = rw (back (ax (c .before .before .before .before .before)), back (ay (c .before .before .before .before)), back (plus (ap (c .before .before .before)) (a (c .before .before .before .before .before .before)) tt), back (plus (aq (c .before .before)) (b (c .before .before .before .before .before .before)) tt), back (r (c .before .before .before .before .before .before))) (span-of ((c .before .before .before .before .before .before) .pre))
+
+-- src/lib.rt:89:9
+returns-2 : tie.Need-returns-2
+returns-2 c = by-apart _ _ _ (sym (inside-is (c .before .before .before)) ∙ c .before .before .if1 .left) (sym (apart-is (c .before)) ∙ c .if2 .taken)
+
+-- src/lib.rt:91:8
+slanted-requires : tie.Need-slanted-requires
+slanted-requires c κs = search needs
+
+-- src/lib.rt:77:1
+returns-3 : tie.Need-returns-3
+returns-3 c = by-slanted _ _ _ (sym (inside-is (c .before .before .before .before .before)) ∙ c .before .before .before .before .if1 .left) (sym (apart-is (c .before .before .before)) ∙ c .before .before .if2 .left) (sym (slanted-is (c .before)) ∙ c .if3 .taken)
+
+-- src/lib.rt:77:1
+returns-4 : tie.Need-returns-4
+returns-4 c = by-none _ _ _ (sym (inside-is (c .before .before .before .before .before)) ∙ c .before .before .before .before .if1 .left) (sym (apart-is (c .before .before .before)) ∙ c .before .before .if2 .left) (sym (slanted-is (c .before)) ∙ c .if3 .left)
+
+pub judge-spec : {M : Type 1} → statement M
+judge-spec =
+    tie.close
+    (tie.spec
+    abs-requires
+    abs-requires-2
+    abs-requires-3
+    add-ex
+    abs-requires-4
+    add-ey
+    inside-requires
+    returns
+    apart-requires
+    returns-2
+    slanted-requires
+    returns-3
+    returns-4)

@@ -1,0 +1,152 @@
+use lib.Dec.{T}
+use lib.Signed.{nonNeg}
+use Rattle.model.specs.Explore.{squares}
+use Rattle.integers.specs.Signed.{Made, called, sized, arg, arg-pos, lit, plus, times, minus, over, widen, back, test-lt, neg-abs, pos-abs, above-zero}
+use Rattle.strip_tests.proofs.Calls.{abs-of, excess-of, most-of, squares-is, low}
+use lib.IntN.{ℤ, pos, natAbs, _-ℤ_, _*ℤ_}
+use mathlib.Core.Path.{_≡_, _∙_, sym}
+use mir.Facts.{toZ-ofZ}
+use Rattle.integers.specs.Absolute.{absℤ}
+use Rattle.strip_tests.specs.PlainTests.{mostBy}
+use borrow.Author.Needs.{needs}
+use Rattle.strip_tests.proofs.slanted.Statement.{statement}
+use Rattle.strip_tests.proofs.slanted.Tie as tie
+use Rattle.strip_tests.proofs.slanted.Reads as reads
+use Rattle.strip_tests.proofs.slanted.Lts as lts
+use Rattle.strip_tests.proofs.abs.Reads as abs-reads
+use Rattle.strip_tests.proofs.beyond.Reads as beyond-reads
+use Rattle.strip_tests.proofs.most.Reads as most-reads
+
+module _ (c : tie.Start) where
+  wx : Made (c .args .wx) (c .args .wx) 1073741824
+  wx = arg (c .pre .wx-size) (c .fits .wx)
+
+  wy : Made (c .args .wy) (c .args .wy) 1073741824
+  wy = arg (c .pre .wy-size) (c .fits .wy)
+
+  p : Made (c .args .p) (c .args .p) 536870912
+  p = arg (c .pre .p-size) (c .fits .p)
+
+  q : Made (c .args .q) (c .args .q) 536870912
+  q = arg (c .pre .q-size) (c .fits .q)
+
+  a : Made (c .args .a) (c .args .a) 268435456
+  a = arg (c .pre .a-size) (c .fits .a)
+
+  b : Made (c .args .b) (c .args .b) 268435456
+  b = arg (c .pre .b-size) (c .fits .b)
+
+r : (c : tie.Start) → Made (c .args .r) (c .args .r) 16777216
+r c = arg (c .pre .node-reach .r-size) (c .fits .r)
+
+nonneg : (p q : ℤ) → T (nonNeg (squares p q))
+nonneg p q = rw (squares-is p q) tt
+
+ap : (c : tie.After-abs) → Made (c .abs .result) (absℤ (c .before .args .p)) 536870912
+ap c = abs-of (p (c .before)) (c .abs .ensures) tt
+
+aq : (c : tie.After-abs2) → Made (c .abs2 .result) (absℤ (c .before .before .args .q)) 536870912
+aq c = abs-of (q (c .before .before)) (c .abs2 .ensures) tt
+
+size : (c : tie.After-abs3) → Made (c .abs3 .result) (absℤ (c .before .before .before .args .wx *ℤ c .before .before .before .args .q -ℤ c .before .before .before .args .wy *ℤ c .before .before .before .args .p)) 1152921504606846976
+size c = abs-of (minus (times (wx (c .before .before .before)) (q (c .before .before .before)) tt) (times (wy (c .before .before .before)) (p (c .before .before .before)) tt) tt) (c .abs3 .ensures) tt
+
+least : (c : tie.After-most) → Made (c .most .result) (mostBy (absℤ (c .before .before .before .before .args .p)) (absℤ (c .before .before .before .before .args .q))) 536870912
+least c = most-of (ap (c .before .before .before)) (aq (c .before .before)) (c .most .ensures) tt
+
+-- src/lib.rt:70:9
+abs-requires : tie.Need-abs-requires
+abs-requires c κs = sized 4000000000000000000 (p c) tt
+
+-- src/lib.rt:71:9
+abs-requires-2 : tie.Need-abs-requires-2
+abs-requires-2 c κs = sized 4000000000000000000 (q (c .before)) tt
+
+-- src/lib.rt:72:21
+mul-abs : tie.Need-mul-abs
+mul-abs c = let s = c .before .before in (times (wx s) (q s) tt) .fits
+
+-- src/lib.rt:72:30
+mul-abs-2 : tie.Need-mul-abs-2
+mul-abs-2 c = let s = c .before .before in (times (wy s) (p s) tt) .fits
+
+-- src/lib.rt:72:21
+sub-abs : tie.Need-sub-abs
+sub-abs c = (minus (times (wx (c .before .before)) (q (c .before .before)) tt) (times (wy (c .before .before)) (p (c .before .before)) tt) tt) .fits
+
+-- src/lib.rt:72:17
+abs-requires-3 : tie.Need-abs-requires-3
+abs-requires-3 c κs = sized 4000000000000000000 (minus (times (wx (c .before .before)) (q (c .before .before)) tt) (times (wy (c .before .before)) (p (c .before .before)) tt) tt) tt
+
+-- src/lib.rt:72:40
+mul-cross : tie.Need-mul-cross
+mul-cross c = (times (a (c .before .before .before)) (aq (c .before)) tt) .fits
+
+-- src/lib.rt:72:17
+sub-cross : tie.Need-sub-cross
+sub-cross c = (minus (size c) (times (a (c .before .before .before)) (aq (c .before)) tt) tt) .fits
+
+-- src/lib.rt:72:49
+mul-cross-2 : tie.Need-mul-cross-2
+mul-cross-2 c = (times (b (c .before .before .before)) (ap (c .before .before)) tt) .fits
+
+-- src/lib.rt:72:17
+sub-cross-2 : tie.Need-sub-cross-2
+sub-cross-2 c = (minus (minus (size c) (times (a (c .before .before .before)) (aq (c .before)) tt) tt) (times (b (c .before .before .before)) (ap (c .before .before)) tt) tt) .fits
+
+-- src/lib.rt:73:22
+most-requires : tie.Need-most-requires
+most-requires c κs = search needs
+
+-- src/lib.rt:73:36
+mul-beyond : tie.Need-mul-beyond
+mul-beyond c = (times (p (c .before .before .before .before)) (p (c .before .before .before .before)) tt) .fits
+
+-- src/lib.rt:73:44
+mul-beyond-2 : tie.Need-mul-beyond-2
+mul-beyond-2 c = (times (q (c .before .before .before .before)) (q (c .before .before .before .before)) tt) .fits
+
+-- src/lib.rt:73:36
+add-beyond : tie.Need-add-beyond
+add-beyond c = (plus (times (p (c .before .before .before .before)) (p (c .before .before .before .before)) tt) (times (q (c .before .before .before .before)) (q (c .before .before .before .before)) tt) tt) .fits
+
+-- src/lib.rt:73:5
+beyond-requires : tie.Need-beyond-requires
+beyond-requires c κs =
+    let s = c .before .before .before .before in
+    let l = low (s .args .p) (s .args .q) in
+    rw (back (minus (minus (size (c .before)) (times (a (c .before .before .before .before)) (aq (c .before .before)) tt) tt) (times (b (c .before .before .before .before)) (ap (c .before .before .before)) tt) tt), back (r s), back (least c), back (plus (times (p s) (p s) tt) (times (q s) (q s) tt) tt))
+    (record {
+      cross-size = (widen 2305843009213693952 (minus (minus (size (c .before)) (times (a s) (aq (c .before .before)) tt) tt) (times (b s) (ap (c .before .before .before)) tt) tt) tt) .within;
+      cross-reach = s .pre .node-reach;
+      low-size = (widen 1073741824 (least c) tt) .within;
+      low-nonneg = l .is-nonneg;
+      pp-nonneg = nonneg (s .args .p) (s .args .q);
+      pp-size = (widen 1152921504606846976 (plus (times (p s) (p s) tt) (times (q s) (q s) tt) tt) tt) .within;
+      low-under = l .is-low;
+    })
+
+-- src/lib.rt:66:1
+returns : tie.Need-returns
+returns c = let s = c .before .before .before .before .before in rw (back (minus (minus (size (c .before .before)) (times (a (c .before .before .before .before .before)) (aq (c .before .before .before)) tt) tt) (times (b (c .before .before .before .before .before)) (ap (c .before .before .before .before)) tt) tt), back (r s), back (plus (times (p s) (p s) tt) (times (q s) (q s) tt) tt)) at (c .beyond .ensures)
+
+pub slanted-spec : {M : Type 1} → statement M
+slanted-spec =
+    tie.close
+    (tie.spec
+    abs-requires
+    abs-requires-2
+    mul-abs
+    mul-abs-2
+    sub-abs
+    abs-requires-3
+    mul-cross
+    sub-cross
+    mul-cross-2
+    sub-cross-2
+    most-requires
+    mul-beyond
+    mul-beyond-2
+    add-beyond
+    beyond-requires
+    returns)

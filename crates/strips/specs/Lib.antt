@@ -1,0 +1,2 @@
+-- What the code's structs stand for.
+pub mod Structs

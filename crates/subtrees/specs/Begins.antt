@@ -1,0 +1,48 @@
+-- The model's test `begins` of a store, and a list that begins with trees, say the same. Assumes nothing.
+use mathlib.Core.Path.{_≡_, refl, sym, ap, ap₂, _∙_, subst}
+use mathlib.Core.Bool.{Bool, true, false, _&&_}
+use mathlib.Core.List.{List, [], _∷_, _++_}
+use Prim.Native.Nat.{ℕ, zero, suc, _*_}
+use borrow.Author.Tests.{eqb-true, eq-eqb}
+use lib.Dec.{T, eqb}
+use lib.IntN.{ℤ, pos, negsuc}
+use lib.ListN.{length, drop}
+use Rattle.model.specs.Sheets.{same}
+use Rattle.model.specs.Trees.{Tree}
+use Rattle.model.specs.Store.{width, sizes, flattenAll, begins}
+use Rattle.subtrees.specs.Preorder.{BeginsAll, length-all}
+
+same-is : (y z : ℤ) → same y z ≡ true → y ≡ z
+unfolding same
+same-is (pos m) (pos n) e = ap pos (eqb-true m n e)
+same-is (pos m) (negsuc n) e = absurd (subst T (sym e) tt)
+same-is (negsuc m) (pos n) e = absurd (subst T (sym e) tt)
+same-is (negsuc m) (negsuc n) e = ap negsuc (eqb-true m n e)
+
+same-self : (z : ℤ) → same z z ≡ true
+unfolding same
+same-self (pos n) = eq-eqb n n refl
+same-self (negsuc n) = eq-eqb n n refl
+
+both : (a b : Bool) → (a && b) ≡ true → (a ≡ true) × (b ≡ true)
+both true b e = (refl, e)
+both false b e = (e, cc)
+
+begins-is : (s ns : List ℤ) → begins s ns ≡ true → s ≡ ns ++ drop (length ns) s
+unfolding begins
+begins-is s [] e = refl
+begins-is [] (n ∷ ns) e = absurd (subst T (sym e) tt)
+begins-is (z ∷ s) (n ∷ ns) e =
+    let h = both (same z n) (begins s ns) e in
+    ap₂ {C = List ℤ} (λ (x : ℤ) (l : List ℤ). x ∷ l) (same-is z n (h .0)) (begins-is s ns (h .1))
+
+begins-self : (ns r : List ℤ) → begins (ns ++ r) ns ≡ true
+unfolding begins
+begins-self [] r = refl
+begins-self (n ∷ ns) r = rw (same-self n) (begins-self ns r)
+
+pub begins-all : (ts : List Tree) (s : List ℤ) → begins s (flattenAll ts) ≡ true → BeginsAll ts s
+begins-all ts s e = begins-is s (flattenAll ts) e ∙ ap (λ (n : ℕ). flattenAll ts ++ drop n s) (length-all ts)
+
+pub all-begins : (ts : List Tree) (s : List ℤ) → BeginsAll ts s → begins s (flattenAll ts) ≡ true
+all-begins ts s e = ap (λ (z : List ℤ). begins z (flattenAll ts)) e ∙ begins-self (flattenAll ts) (drop (width * sizes ts) s)

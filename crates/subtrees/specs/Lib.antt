@@ -1,0 +1,6 @@
+-- The subtree of a piece as code walks it, and lists that begin with a tree in preorder.
+pub mod Preorder
+pub mod Begins
+pub mod Subtrees
+pub mod Halving
+pub mod Counts

@@ -1,0 +1,134 @@
+-- Lists that begin with a tree's numbers in preorder: where its node's numbers and its halves stand, and what makes one. Assumes nothing.
+use mathlib.Core.Path.{_≡_, refl, sym, ap, _∙_, subst}
+use mathlib.Core.Bool.{Bool, true, false, _&&_}
+use mathlib.Core.List.{List, [], _∷_, _++_, append-assoc}
+use Prim.Native.Nat.{ℕ, zero, suc, _+_, _*_, _-_, _≤_, _<_}
+use native.Mathlib.Omega.{arith}
+use lib.Dec.{T}
+use lib.IntN.{ℤ, pos, natAbs}
+use lib.ListN.{length, getD, take, drop, length-append, length-drop}
+use lib.Seq.{take-at, take-all, drop-at, drop-drop}
+use Rattle.model.specs.Strips.{Side, Strip}
+use Rattle.model.specs.Trees.{Tree, leaf, long, node}
+use Rattle.model.specs.Store.{width, size, sizes, numbers, flatten, flattenAll}
+
+-- ---- how many numbers
+pub size-pos : (t : Tree) → 1 ≤ size t
+size-pos (leaf s) = omega arith
+size-pos (long s) = omega arith
+size-pos (node s l r) = omega arith
+
+pub length-flatten : (t : Tree) → length (flatten t) ≡ width * size t
+length-flatten (leaf s) = refl
+length-flatten (long s) = refl
+length-flatten (node s l r) = omega (arith, length-append (flatten l) (flatten r), length-flatten l, length-flatten r)
+
+pub length-all : (ts : List Tree) → length (flattenAll ts) ≡ width * sizes ts
+length-all [] = refl
+length-all (t ∷ ts) = omega (arith, length-append (flatten t) (flattenAll ts), length-flatten t, length-all ts)
+
+-- a part that runs to the end of its slice
+pub tail : (p : ℕ) (l : List ℤ) → take (length l - p) (drop p l) ≡ drop p l
+tail p l = take-all (length l - p) (drop p l) (rw length-drop (omega arith))
+
+-- ---- a list that begins with a tree, with several
+abbrev pub Begins : Tree → List ℤ → Type 0
+Begins t l = l ≡ flatten t ++ drop (width * size t) l
+
+abbrev pub BeginsAll : List Tree → List ℤ → Type 0
+BeginsAll ts l = l ≡ flattenAll ts ++ drop (width * sizes ts) l
+
+pub later : (l r : List ℤ) (t : Tree) → l ≡ flatten t ++ r → drop (width * size t) l ≡ r
+later l r t e = ap (λ (z : List ℤ). drop (width * size t) z) e ∙ drop-at (flatten t) r (width * size t) (length-flatten t)
+
+pub begun : (l r : List ℤ) (t : Tree) → l ≡ flatten t ++ r → Begins t l
+begun l r t e = e ∙ ap (λ (z : List ℤ). flatten t ++ z) (sym (later l r t e))
+
+-- ---- places inside a node: a strip's coordinate i has its centre, its axis and its box two apart, and the node count stands last
+abbrev pub countPlace : ℕ
+countPlace = 6
+
+abbrev pub HasSide : List ℤ → ℕ → Side → Type 0
+HasSide l i s = (getD l i (pos 0) ≡ s .centre) × (getD l (i + 2) (pos 0) ≡ s .axis) × (getD l (i + 4) (pos 0) ≡ s .box)
+
+-- the first node's strip is s
+abbrev pub HasStrip : List ℤ → Strip → Type 0
+HasStrip l s = HasSide l 0 (s .x) × HasSide l 1 (s .y)
+
+-- the node count of the first node, whatever follows the tree
+pub count-first : (t : Tree) (rest : List ℤ) → getD (flatten t ++ rest) countPlace (pos 0) ≡ pos (size t)
+count-first (leaf s) rest = refl
+count-first (long s) rest = refl
+count-first (node s l r) rest = refl
+
+-- a list by its first numbers
+heads : (l : List ℤ) → width ≤ length l → l ≡ getD l 0 (pos 0) ∷ getD l 1 (pos 0) ∷ getD l 2 (pos 0) ∷ getD l 3 (pos 0) ∷ getD l 4 (pos 0) ∷ getD l 5 (pos 0) ∷ getD l 6 (pos 0) ∷ drop width l
+heads [] h = absurd (omega arith)
+heads (a ∷ []) h = absurd (omega arith)
+heads (a ∷ b ∷ []) h = absurd (omega arith)
+heads (a ∷ b ∷ c ∷ []) h = absurd (omega arith)
+heads (a ∷ b ∷ c ∷ d ∷ []) h = absurd (omega arith)
+heads (a ∷ b ∷ c ∷ d ∷ e ∷ []) h = absurd (omega arith)
+heads (a ∷ b ∷ c ∷ d ∷ e ∷ f ∷ []) h = absurd (omega arith)
+heads (a ∷ b ∷ c ∷ d ∷ e ∷ f ∷ g ∷ l) h = refl
+
+front : (l : List ℤ) (s : Strip) (n : ℕ) → width ≤ length l → HasStrip l s → getD l countPlace (pos 0) ≡ pos n → l ≡ numbers s n (drop width l)
+front l s n h k c = heads l h ∙ rw (k .0 .0, k .1 .0, k .0 .1, k .1 .1, k .0 .2, k .1 .2, c)
+
+strip-of : (l r : List ℤ) (s : Strip) (n : ℕ) → l ≡ numbers s n r → HasStrip l s
+strip-of l r s n e = rw e ((refl, refl, refl), (refl, refl, refl))
+
+abbrev pub top : Tree → Strip
+top (leaf s) = s
+top (long s) = s
+top (node s l r) = s
+
+pub begins-strip : (t : Tree) (l : List ℤ) → Begins t l → HasStrip l (top t)
+begins-strip (leaf s) l e = strip-of l (drop width l) s 1 e
+begins-strip (long s) l e = strip-of l (drop width l) s 1 e
+begins-strip (node s a b) l e = strip-of l ((flatten a ++ flatten b) ++ drop (width * suc (size a + size b)) l) s (suc (size a + size b)) e
+
+pub begins-count : (t : Tree) (l : List ℤ) → Begins t l → getD l countPlace (pos 0) ≡ pos (size t)
+begins-count t l e = ap (λ (z : List ℤ). getD z countPlace (pos 0)) e ∙ count-first t (drop (width * size t) l)
+
+pub leaf-begins : (l : List ℤ) (s : Strip) → width ≤ length l → HasStrip l s → getD l countPlace (pos 0) ≡ pos 1 → Begins (leaf s) l
+leaf-begins l s h k c = front l s 1 h k c
+
+-- ---- a node and its halves
+after : (l : List ℤ) (s : Strip) (a b : Tree) → Begins (node s a b) l → drop width l ≡ flatten a ++ (flatten b ++ drop (width * suc (size a + size b)) l)
+after l s a b e = ap (λ (z : List ℤ). drop width z) e ∙ append-assoc (flatten a) (flatten b) (drop (width * suc (size a + size b)) l)
+
+pub node-left : (l : List ℤ) (s : Strip) (a b : Tree) → Begins (node s a b) l → Begins a (drop width l)
+node-left l s a b e = begun (drop width l) (flatten b ++ drop (width * suc (size a + size b)) l) a (after l s a b e)
+
+pub node-right : (l : List ℤ) (s : Strip) (a b : Tree) → Begins (node s a b) l → Begins b (drop (width + width * size a) l)
+node-right l s a b e =
+    begun (drop (width + width * size a) l) (drop (width * suc (size a + size b)) l) b
+    (sym (drop-drop (width * size a) width l) ∙ later (drop width l) (flatten b ++ drop (width * suc (size a + size b)) l) a (after l s a b e))
+
+pub node-begins : (l : List ℤ) (s : Strip) (a b : Tree) → width ≤ length l → HasStrip l s → Begins a (drop width l) → Begins b (drop (width + width * size a) l) → getD l countPlace (pos 0) ≡ pos (suc (size a + size b)) →
+    Begins (node s a b) l
+node-begins l s a b h k p q c =
+    let i : width + width * size a + width * size b ≡ width * suc (size a + size b) = omega arith in
+    let u : drop (width + width * size a) l ≡ flatten b ++ drop (width * suc (size a + size b)) l = q ∙ ap (λ (z : List ℤ). flatten b ++ z) (drop-drop (width * size b) (width + width * size a) l ∙ ap (λ (n : ℕ). drop n l) i) in
+    let v : drop width l ≡ flatten a ++ (flatten b ++ drop (width * suc (size a + size b)) l) = p ∙ ap (λ (z : List ℤ). flatten a ++ z) (drop-drop (width * size a) width l ∙ u) in
+    front l s (suc (size a + size b)) h k c ∙ ap (λ (z : List ℤ). numbers s (suc (size a + size b)) z) (v ∙ sym (append-assoc (flatten a) (flatten b) (drop (width * suc (size a + size b)) l)))
+
+-- ---- several trees
+pub joined : (s : List ℤ) (t : Tree) (us : List Tree) → flatten t ++ (flattenAll us ++ drop (width * sizes us) (drop (width * size t) s)) ≡ (flatten t ++ flattenAll us) ++ drop (width * (size t + sizes us)) s
+joined s t us =
+    let k : width * size t + width * sizes us ≡ width * (size t + sizes us) = omega arith in
+    sym (append-assoc (flatten t) (flattenAll us) (drop (width * sizes us) (drop (width * size t) s)))
+    ∙ ap (λ (z : List ℤ). (flatten t ++ flattenAll us) ++ z) (drop-drop (width * sizes us) (width * size t) s ∙ ap (λ (i : ℕ). drop i s) k)
+
+pub all-yes : (t : Tree) (us : List Tree) (s : List ℤ) → Begins t s → BeginsAll us (drop (width * size t) s) → BeginsAll (t ∷ us) s
+all-yes t us s p q = p ∙ ap (λ (z : List ℤ). flatten t ++ z) q ∙ joined s t us
+
+after-first : (t : Tree) (us : List Tree) (s : List ℤ) → BeginsAll (t ∷ us) s → s ≡ flatten t ++ (flattenAll us ++ drop (width * sizes us) (drop (width * size t) s))
+after-first t us s b = b ∙ sym (joined s t us)
+
+pub all-first : (t : Tree) (us : List Tree) (s : List ℤ) → BeginsAll (t ∷ us) s → Begins t s
+all-first t us s b = begun s (flattenAll us ++ drop (width * sizes us) (drop (width * size t) s)) t (after-first t us s b)
+
+pub all-others : (t : Tree) (us : List Tree) (s : List ℤ) → BeginsAll (t ∷ us) s → BeginsAll us (drop (width * size t) s)
+all-others t us s b = later s (flattenAll us ++ drop (width * sizes us) (drop (width * size t) s)) t (after-first t us s b)

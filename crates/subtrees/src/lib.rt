@@ -1,0 +1,1 @@
+// Laws only: the subtree of a piece as code walks it, and lists that begin with a tree in preorder.

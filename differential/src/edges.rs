@@ -1,0 +1,101 @@
+//! Random edges of many shapes.
+
+use crate::numbers::PLACE;
+use crate::random::Random;
+use clearance_reference::COORDINATE_LIMIT;
+
+/// The eight numbers of an edge.
+pub type Edge = [i32; PLACE];
+
+/// The shape of an edge.
+#[derive(Clone, Copy)]
+pub enum Shape {
+    /// All four control points at one spot.
+    Spot,
+    /// Control points that differ by one at most, where rounding tells.
+    Crumb,
+    Line,
+    /// A line along an axis.
+    Level,
+    /// A line whose parameter runs back and forth.
+    Folded,
+    Cusp,
+    Loop,
+    Closed,
+    Free,
+}
+
+pub const SHAPES: [Shape; 9] = [
+    Shape::Spot,
+    Shape::Crumb,
+    Shape::Line,
+    Shape::Level,
+    Shape::Folded,
+    Shape::Cusp,
+    Shape::Loop,
+    Shape::Closed,
+    Shape::Free,
+];
+
+/// Where an outline lies and how large it is.
+#[derive(Clone, Copy)]
+pub struct Ground {
+    pub middle: [i32; 2],
+    pub size: i32,
+}
+
+impl Ground {
+    /// From a few units to the whole range, anywhere in it.
+    pub fn random(random: &mut Random) -> Ground {
+        let size = random.choose(&[1, 3, 9, 20, 60, 300, 2_000, 15_000, 120_000, 1_000_000]);
+        let room = COORDINATE_LIMIT - size;
+        let middle = match random.below(3) {
+            0 => [0, 0],
+            1 => [random.between(-50, 50), random.between(-50, 50)],
+            _ => [random.between(-room, room), random.between(-room, room)],
+        };
+        Ground { middle, size }
+    }
+
+    /// A small part of this ground, so that each edge has cells of its own.
+    pub fn part(&self, random: &mut Random) -> Ground {
+        let [x, y] = self.spot(random);
+        Ground {
+            middle: [self.middle[0] + x, self.middle[1] + y],
+            size: (self.size / 12).max(1),
+        }
+    }
+
+    /// A spot about the middle.
+    fn spot(&self, random: &mut Random) -> [i32; 2] {
+        [0, 1].map(|_| random.between(-self.size, self.size))
+    }
+
+    /// A random edge of this shape here, its numbers kept in range.
+    pub fn edge(&self, random: &mut Random, shape: Shape) -> Edge {
+        let points = self.control_points(random, shape);
+        let mut edge = [0; PLACE];
+        for (index, number) in edge.iter_mut().enumerate() {
+            let free = points[index / 2][index % 2].saturating_add(self.middle[index % 2]);
+            *number = free.clamp(-COORDINATE_LIMIT, COORDINATE_LIMIT);
+        }
+        edge
+    }
+
+    fn control_points(&self, random: &mut Random, shape: Shape) -> [[i32; 2]; 4] {
+        let [p, q, a, b] = [0; 4].map(|_| self.spot(random));
+        let [w, h] = q;
+        let along = |k: i32| [0, 1].map(|c| p[c] + k * (q[c] - p[c]) / 3);
+        match shape {
+            Shape::Spot => [p; 4],
+            Shape::Crumb => [0; 4].map(|_| p.map(|number| number + random.between(-1, 1))),
+            Shape::Line => [p, along(1), along(2), q],
+            Shape::Level => [p, a, b, q].map(|[x, _]| [x, h]),
+            Shape::Folded => [p, along(5), along(-2), q],
+            Shape::Cusp => [[0, 0], [w, h], [0, h], [w, 0]],
+            Shape::Loop => [[0, 0], [2 * w, h], [-w, h], [w, 0]],
+            Shape::Closed => [p, a, b, p],
+            Shape::Free => [p, a, b, q],
+        }
+    }
+}

@@ -1,0 +1,134 @@
+//! Maps: the library beside the second implementation.
+
+use crate::fault::{number_of, Comparison, Fault};
+use crate::jobs::{crowded_job, sketch_job, tuned_job};
+use crate::lent::Lent;
+use crate::numbers::{describe, reference_job, Numbers, COUNT, M, N};
+use crate::random::Random;
+use crate::spoiling::spoil;
+use crate::stores::right_numbers;
+use crate::tally::Tally;
+use crate::ties::tied_job;
+use clearance::ffi;
+
+/// How much is lent: numbers of store and bytes of map.
+type Lengths = (usize, usize);
+
+/// Maps a job with both and compares everything.
+pub fn compare(job: &Numbers, lengths: Lengths, salt: u64, tally: &mut Tally) -> Result<(), Fault> {
+    let lent_job = Lent::holding(job, salt);
+    let given = lent_job.clone();
+    let mut store = Lent::marked(lengths.0, salt ^ 1);
+    let mut wanted_store = store.clone();
+    let mut cells = Lent::marked(lengths.1, salt ^ 2);
+    let mut wanted_cells = cells.clone();
+    let mut nodes = Lent::marked(1, salt ^ 3);
+    let mut wanted_nodes = nodes.clone();
+    // SAFETY: all are as long as the call is told, and apart.
+    let number = unsafe {
+        ffi::clearance_map(
+            lent_job.pointer(),
+            store.pointer_mut(),
+            lengths.0,
+            cells.pointer_mut(),
+            lengths.1,
+            nodes.pointer_mut(),
+        )
+    };
+
+    let result = clearance_reference::map(
+        &reference_job(job),
+        wanted_store.part_mut(),
+        wanted_cells.part_mut(),
+    );
+    wanted_nodes.part_mut()[0] = result.unwrap_or(0);
+    tally.note(number_of(&result));
+    Comparison::default()
+        .value("refusal", number, number_of(&result))
+        .memory("nodes", &nodes, &wanted_nodes)
+        .memory("store", &store, &wanted_store)
+        .memory("cells", &cells, &wanted_cells)
+        .memory("job", &lent_job, &given)
+        .finish(|| {
+            let (numbers, bytes) = lengths;
+            format!(
+                "map to {numbers} numbers and {bytes} bytes of {}",
+                describe(job)
+            )
+        })
+}
+
+/// What a legal job needs. A long one needs no store; 40 numbers stand for it.
+fn need(job: &Numbers) -> Lengths {
+    let numbers = match right_numbers(job).len() {
+        0 => 40,
+        need => need,
+    };
+    (numbers, 1 << (2 * (job[N] - job[M])))
+}
+
+/// Legal jobs with all the memory they need, or more.
+pub fn drawn(random: &mut Random, tally: &mut Tally) -> Result<(), Fault> {
+    let spread = match random.below(60) {
+        0 => 8,
+        1..=4 => 6,
+        _ => 4,
+    };
+    let mut job = tuned_job(random, spread);
+    // Many edges on a fine map take long.
+    if job[COUNT] > 5 {
+        job[M] = job[M].max(job[N] - 5);
+    }
+    let (numbers, bytes) = need(&job);
+    let more = (random.below(3), random.below(3));
+    compare(
+        &job,
+        (numbers + more.0, bytes + more.1),
+        random.bits(),
+        tally,
+    )
+}
+
+/// Legal jobs in which a cell meets a test with equality.
+pub fn tied(random: &mut Random, tally: &mut Tally) -> Result<(), Fault> {
+    let job = tied_job(random);
+    compare(&job, need(&job), random.bits(), tally)
+}
+
+/// Legal jobs of many edges.
+pub fn crowded(random: &mut Random, tally: &mut Tally) -> Result<(), Fault> {
+    let job = crowded_job(random);
+    compare(&job, need(&job), random.bits(), tally)
+}
+
+/// Legal jobs with every length about the ones needed.
+pub fn lengths(random: &mut Random, tally: &mut Tally) -> Result<(), Fault> {
+    let job = tuned_job(random, 3);
+    let (numbers, bytes) = need(&job);
+    let any = (random.below(numbers), random.below(bytes));
+    for lent in [
+        (0, 0),
+        (0, bytes),
+        (numbers, 0),
+        (numbers - 1, bytes - 1),
+        (numbers - 1, bytes + 1),
+        (numbers, bytes - 1),
+        (numbers, bytes),
+        (numbers + 1, bytes + 1),
+        (any.0, bytes),
+        (numbers + 50, any.1),
+    ] {
+        compare(&job, lent, random.bits(), tally)?;
+    }
+    Ok(())
+}
+
+/// Illegal jobs, with any length.
+pub fn illegal(random: &mut Random, tally: &mut Tally) -> Result<(), Fault> {
+    let mut job = sketch_job(random, 3);
+    spoil(random, &mut job);
+    for lent in [(0, 0), (random.below(300), random.below(300))] {
+        compare(&job, lent, random.bits(), tally)?;
+    }
+    Ok(())
+}

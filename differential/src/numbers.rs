@@ -1,0 +1,75 @@
+//! A job as the 519 numbers that the library takes, legal or not.
+
+use clearance_reference::Job;
+use std::fmt::Write;
+
+pub const X: usize = 0;
+pub const Y: usize = 1;
+pub const N: usize = 2;
+pub const M: usize = 3;
+pub const REACH: usize = 4;
+pub const GRAIN: usize = 5;
+pub const COUNT: usize = 6;
+/// The first number of the first place.
+pub const PLACES: usize = 7;
+/// Numbers of a place.
+pub const PLACE: usize = clearance::PLACE_NUMBERS;
+
+/// The numbers of a job, in the library's order.
+pub type Numbers = [i32; clearance::JOB_NUMBERS];
+
+/// The same job for the second implementation. It has no negative count; one is
+/// taken as 0, which is refused alike.
+pub fn reference_job(numbers: &Numbers) -> Job {
+    let mut job = Job {
+        x: numbers[X],
+        y: numbers[Y],
+        n: numbers[N],
+        m: numbers[M],
+        reach: numbers[REACH],
+        grain: numbers[GRAIN],
+        count: usize::try_from(numbers[COUNT]).unwrap_or(0),
+        ..Job::ZERO
+    };
+    job.places.copy_from_slice(&numbers[PLACES..]);
+    job
+}
+
+/// The numbers of a job of the second implementation.
+pub fn numbers_of(job: &Job) -> Numbers {
+    let mut numbers = [0; clearance::JOB_NUMBERS];
+    let count = i32::try_from(job.count).unwrap_or(i32::MAX);
+    numbers[..PLACES].copy_from_slice(&[job.x, job.y, job.n, job.m, job.reach, job.grain, count]);
+    numbers[PLACES..].copy_from_slice(&job.places);
+    numbers
+}
+
+/// The same job for the safe calls.
+pub fn binding_job(numbers: &Numbers) -> clearance::Job {
+    let mut job = clearance::Job {
+        x: numbers[X],
+        y: numbers[Y],
+        n: numbers[N],
+        m: numbers[M],
+        reach: numbers[REACH],
+        grain: numbers[GRAIN],
+        count: numbers[COUNT],
+        ..clearance::Job::ZERO
+    };
+    job.places.copy_from_slice(&numbers[PLACES..]);
+    job
+}
+
+/// A job in few words: its first seven numbers and the places that are edges or
+/// not all zeros.
+pub fn describe(numbers: &Numbers) -> String {
+    let [x, y, n, m, reach, grain, count] = [0, 1, 2, 3, 4, 5, 6].map(|index| numbers[index]);
+    let mut text = format!("job x {x} y {y} n {n} m {m} reach {reach} grain {grain} count {count}");
+    for (index, place) in numbers[PLACES..].chunks(PLACE).enumerate() {
+        if index < usize::try_from(count).unwrap_or(0) || place.iter().any(|&number| number != 0) {
+            // Writing to a string cannot fail.
+            let _ = write!(text, "\n    place {index}: {place:?}");
+        }
+    }
+    text
+}

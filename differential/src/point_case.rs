@@ -1,0 +1,125 @@
+//! Points: the library beside the second implementation. Of several edges that
+//! attain hi the library may name any.
+
+use crate::fault::{number_of, Comparison, Fault};
+use crate::jobs::{sketch_job, tuned_job};
+use crate::lent::Lent;
+use crate::numbers::{describe, reference_job, Numbers};
+use crate::random::Random;
+use crate::spoiling::spoil;
+use crate::spots::{odd_spot, spot_in_range};
+use crate::stores::{changed_store, others_store, right_numbers, right_store, short_store};
+use crate::tally::Tally;
+use clearance::ffi;
+use clearance_reference::trees;
+
+/// Asks both for a point and compares everything.
+pub fn compare(
+    job: &Numbers,
+    [x, y]: [i32; 2],
+    store: &Lent<i32>,
+    salt: u64,
+    tally: &mut Tally,
+) -> Result<(), Fault> {
+    let lent_job = Lent::holding(job, salt);
+    let given_job = lent_job.clone();
+    let given_store = store.clone();
+    let mut nearest = Lent::marked(3, salt ^ 1);
+    let mut wanted = nearest.clone();
+    // SAFETY: all are as long as the call is told, and apart.
+    let number = unsafe {
+        ffi::clearance_point(
+            lent_job.pointer(),
+            x,
+            y,
+            store.pointer(),
+            store.length(),
+            nearest.pointer_mut(),
+        )
+    };
+
+    let result = clearance_reference::point(&reference_job(job), x, y, given_store.part());
+    let answer = result.map_or([0; 3], |n| {
+        let named = nearest.part()[2];
+        let fits = attains(job, named, [x, y], n.hi);
+        [n.lo, n.hi, if fits { named } else { n.edge as i64 }]
+    });
+    wanted.part_mut().copy_from_slice(&answer);
+    tally.note(number_of(&result));
+    Comparison::default()
+        .value("refusal", number, number_of(&result))
+        .memory("nearest", &nearest, &wanted)
+        .memory("store", store, &given_store)
+        .memory("job", &lent_job, &given_job)
+        .finish(|| {
+            let numbers = given_store.length();
+            format!("point {x} {y} of {numbers} numbers of {}", describe(job))
+        })
+}
+
+/// Whether the edge has a leaf whose greatest squared distance is this one.
+fn attains(job: &Numbers, edge: i64, spot: [i32; 2], hi: i64) -> bool {
+    let trees = trees::grow(&reference_job(job)).unwrap_or_default();
+    let tree = usize::try_from(edge).ok().and_then(|edge| trees.get(edge));
+    tree.is_some_and(|tree| {
+        tree.leaves().into_iter().any(|leaf| {
+            let extent = leaf.extent();
+            let far = [0, 1].map(|c| {
+                let apart = (16 * i64::from(spot[c]) - leaf.centre[c]).abs();
+                (apart + extent[c]).pow(2)
+            });
+            far[0] + far[1] == hi
+        })
+    })
+}
+
+/// Points in range, asked of the right store.
+pub fn answered(random: &mut Random, tally: &mut Tally) -> Result<(), Fault> {
+    let job = tuned_job(random, 8);
+    let right = right_numbers(&job);
+    for _ in 0..4 {
+        let spot = spot_in_range(random, &job);
+        let store = right_store(random, &right);
+        compare(&job, spot, &store, random.bits(), tally)?;
+    }
+    Ok(())
+}
+
+/// Points asked of stores that are short, changed or another job's.
+pub fn stores(random: &mut Random, tally: &mut Tally) -> Result<(), Fault> {
+    let job = tuned_job(random, 8);
+    let right = right_numbers(&job);
+    let spot = spot_in_range(random, &job);
+    for store in [
+        right_store(random, &right),
+        short_store(random, &right),
+        changed_store(random, &right),
+        changed_store(random, &right),
+        others_store(random, &job),
+    ] {
+        compare(&job, spot, &store, random.bits(), tally)?;
+    }
+    Ok(())
+}
+
+/// Points out of range and illegal jobs, with the right store and with others.
+pub fn illegal(random: &mut Random, tally: &mut Tally) -> Result<(), Fault> {
+    let legal = sketch_job(random, 8);
+    let right = right_numbers(&legal);
+    let mut spoiled = legal;
+    spoil(random, &mut spoiled);
+    let jobs_and_spots = [
+        (legal, odd_spot(random, &legal)),
+        (spoiled, spot_in_range(random, &legal)),
+        (spoiled, odd_spot(random, &legal)),
+    ];
+    for (job, spot) in jobs_and_spots {
+        let store = match random.below(3) {
+            0 => short_store(random, &right),
+            1 => changed_store(random, &right),
+            _ => right_store(random, &right),
+        };
+        compare(&job, spot, &store, random.bits(), tally)?;
+    }
+    Ok(())
+}

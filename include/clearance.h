@@ -1,0 +1,201 @@
+/*
+ * clearance.h: clearance maps of square plates.
+ *
+ * From an outline of 1 to 64 cubic Bezier edges the library builds trees of
+ * strips, one tree an edge. With them it draws a map that tells for each cell of
+ * a plate whether it is clear of the outline, inside its reach or doubtful, and
+ * it bounds the distance of a point from the outline.
+ *
+ * Every function takes any numbers and any lengths, and gives an answer or a
+ * refusal. None keeps anything between calls or asks for memory of its own.
+ *
+ * Units. Lengths and coordinates are whole hundredths of a millimetre. A fine
+ * unit is a sixteenth of that; the store and the distances of a point are in
+ * fine units, the distances squared.
+ *
+ * Lent memory. A pointer is never null, not even with the length 0, is aligned
+ * for its type and has at least as many numbers or bytes as its length says.
+ * Memory that a function writes overlaps nothing else that it is given. What
+ * is lent as const is only read. A refused call changes nothing in `out`,
+ * `store` and `cells`. An accepted call writes from their start on and changes
+ * nothing past what it writes. `job` of clearance_read, `bytes`, `nodes` and
+ * `nearest` are written by every call, also by a refused one.
+ */
+#ifndef CLEARANCE_H
+#define CLEARANCE_H
+
+#include <stddef.h>
+#include <stdint.h>
+
+#ifdef __cplusplus
+extern "C" {
+#endif
+
+/* Refusals: what every function returns, and 0 where it accepts. Of several
+ * that apply, the one with the lowest number is given. */
+enum {
+    CLEARANCE_ACCEPTED = 0,
+    /* "form": the bytes are no job sheet. From read. */
+    CLEARANCE_FORM = 1,
+    /* "edges": there are no edges, or more than 64. From all four. */
+    CLEARANCE_EDGES = 2,
+    /* "range": a number is out of its range, or a place past the edges holds
+     * something other than zeros. From all four. */
+    CLEARANCE_RANGE = 3,
+    /* "cell": the smallest cell is larger than the plate, or the plate is more
+     * than 256 of them wide. From all four. */
+    CLEARANCE_CELL = 4,
+    /* "long": an edge is too long for the grain, even after ten halvings.
+     * From map and point. */
+    CLEARANCE_LONG = 5,
+    /* "store": `store` is too short for the trees. From map and point. */
+    CLEARANCE_STORE = 6,
+    /* "space": `out` or `cells` is too short. From write and map. */
+    CLEARANCE_SPACE = 7,
+    /* "stranger": `store` does not begin with the trees of this job. From
+     * point. */
+    CLEARANCE_STRANGER = 8
+};
+
+/* Where the numbers of a job stand. */
+enum {
+    /* Lower left corner of the plate: -1000000 to 1000000. */
+    CLEARANCE_X = 0,
+    CLEARANCE_Y = 1,
+    /* The plate's side is 2 to this power: 0 to 20. */
+    CLEARANCE_N = 2,
+    /* The smallest cell's side is 2 to this power: 0 to 20, not more than N and
+     * not less than N - 8. */
+    CLEARANCE_M = 3,
+    /* The reach, how far from the outline it is still inside: 1 to 1000000. */
+    CLEARANCE_REACH = 4,
+    /* The grain, half the width and height that a leaf may have: 1 to 100000. */
+    CLEARANCE_GRAIN = 5,
+    /* How many edges there are: 1 to 64. A negative count is taken as 0. */
+    CLEARANCE_COUNT = 6,
+    /* The first of 64 places, eight numbers each: x0 y0 x1 y1 x2 y2 x3 y3, the
+     * control points of an edge, -1000000 to 1000000. Places past the count are
+     * all zeros. */
+    CLEARANCE_PLACES = 7
+};
+
+/* All the numbers of a job. */
+#define CLEARANCE_JOB_NUMBERS 519
+/* The most edges of a job, and the places for them. */
+#define CLEARANCE_EDGES_MOST 64
+/* The numbers of a place. */
+#define CLEARANCE_PLACE_NUMBERS 8
+
+/* The greatest size of a coordinate, above and below zero. */
+#define CLEARANCE_COORDINATE_MOST 1000000
+/* The greatest reach. */
+#define CLEARANCE_REACH_MOST 1000000
+/* The greatest grain. */
+#define CLEARANCE_GRAIN_MOST 100000
+/* The grain of a sheet without a grain line. */
+#define CLEARANCE_GRAIN_DEFAULT 10
+/* The greatest N and the greatest M. */
+#define CLEARANCE_POWER_MOST 20
+/* The greatest N - M. */
+#define CLEARANCE_POWERS_APART_MOST 8
+
+/* The most bytes of a sheet that is read; a longer one is refused as form. */
+#define CLEARANCE_SHEET_READ_MOST 8192
+/* The most bytes of a sheet that is written: enough for every job. */
+#define CLEARANCE_SHEET_WRITTEN_MOST 5645
+/* The most cells of a map, one byte each: enough for every job. */
+#define CLEARANCE_CELLS_MOST 65536
+/* The numbers of a node in the store: centre x, y, axis x, y, box x, y, and the
+ * count of nodes in its subtree, itself included. */
+#define CLEARANCE_NODE_NUMBERS 7
+/* The most nodes of one edge's tree: ten halvings of every piece. */
+#define CLEARANCE_TREE_NODES_MOST 2047
+/* The most numbers of a store, 64 * 2047 * 7: enough for every job. */
+#define CLEARANCE_STORE_MOST 917056
+
+/* The letters of a map. */
+/* No point of the cell is within reach of the outline. */
+#define CLEARANCE_CLEAR 'C'
+/* Every point of the cell is within reach of the outline. */
+#define CLEARANCE_INSIDE 'I'
+/* Neither is claimed. */
+#define CLEARANCE_DOUBTFUL 'D'
+
+/* Where the three numbers of a point's answer stand. */
+enum {
+    /* No point of the outline is nearer than this; squared fine units. */
+    CLEARANCE_LO = 0,
+    /* Some point of the outline is within this; squared fine units. */
+    CLEARANCE_HI = 1,
+    /* An edge, from 0, with a leaf that gives the bound hi. */
+    CLEARANCE_EDGE = 2,
+    /* How many numbers there are. */
+    CLEARANCE_NEAREST_NUMBERS = 3
+};
+
+/*
+ * Reads a job sheet.
+ *
+ * sheet, sheet_len  the bytes of the sheet; at most 8192 can be accepted
+ * job               written by every call: the job, or all zeros where refused
+ *
+ * Returns 0, or CLEARANCE_FORM, _EDGES, _RANGE or _CELL.
+ */
+uint8_t clearance_read(const uint8_t *sheet, size_t sheet_len,
+                       int32_t job[CLEARANCE_JOB_NUMBERS]);
+
+/*
+ * Writes the sheet of a job. The grain line is left out where the grain is 10.
+ *
+ * job           any numbers
+ * out, out_len  the sheet is written to the start; 5645 bytes are always enough
+ * bytes         written by every call: the sheet's length, or 0 where refused
+ *
+ * Returns 0, or CLEARANCE_EDGES, _RANGE, _CELL or _SPACE.
+ */
+uint8_t clearance_write(const int32_t job[CLEARANCE_JOB_NUMBERS],
+                        uint8_t *out, size_t out_len, size_t *bytes);
+
+/*
+ * Builds the trees of a job and draws its map. The map is square with
+ * 2^(N - M) cells a side, one letter a cell: rows from the lowest y upward, in a
+ * row from the lowest x on, nothing between rows.
+ *
+ * job               any numbers
+ * store, store_len  the trees are written to the start, seven numbers a node:
+ *                   a node, its left half's subtree, its right half's; the
+ *                   edges in the order of the job. 917056 numbers are always
+ *                   enough
+ * cells, cells_len  the map is written to the start; 65536 bytes are always
+ *                   enough
+ * nodes             written by every call: the nodes in the store, or 0 where
+ *                   refused
+ *
+ * Returns 0, or CLEARANCE_EDGES, _RANGE, _CELL, _LONG, _STORE or _SPACE.
+ */
+uint8_t clearance_map(const int32_t job[CLEARANCE_JOB_NUMBERS],
+                      int32_t *store, size_t store_len,
+                      uint8_t *cells, size_t cells_len, size_t *nodes);
+
+/*
+ * Bounds the distance of a point from the outline.
+ *
+ * job               any numbers
+ * x, y              the point; out of -1000000 to 1000000 it is refused as range
+ * store, store_len  begins with the trees of this job, as a map call left them;
+ *                   what follows the trees does not matter
+ * nearest           written by every call: lo, hi and edge, or zeros where
+ *                   refused
+ *
+ * Returns 0, or CLEARANCE_EDGES, _RANGE, _CELL, _LONG, _STORE or _STRANGER.
+ */
+uint8_t clearance_point(const int32_t job[CLEARANCE_JOB_NUMBERS],
+                        int32_t x, int32_t y,
+                        const int32_t *store, size_t store_len,
+                        int64_t nearest[CLEARANCE_NEAREST_NUMBERS]);
+
+#ifdef __cplusplus
+}
+#endif
+
+#endif

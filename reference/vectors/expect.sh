@@ -1,0 +1,18 @@
+#!/bin/sh
+# Writes what the test programs must print, from this implementation: for each stored case its name and then the answer.
+set -eu
+cd "$(dirname "$0")/../.."
+(cd reference && cargo build --release --offline --quiet)
+answer=reference/target/release/clearance-reference
+
+# expect CRATE COMMAND
+expect() {
+    while read -r name; do
+        echo "$name"
+        "$answer" "$2" < "crates/$1/data/$name"
+    done < "crates/$1/args" > "crates/$1/stdout"
+}
+
+expect sheet_cases write
+expect map_cases map
+expect point_cases probe

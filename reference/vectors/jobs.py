@@ -1,0 +1,100 @@
+#!/usr/bin/env python3
+"""Writes the stored jobs of the test programs map_cases and point_cases, a file a case, and the lists of their names."""
+
+import pathlib
+import random
+
+TOP = pathlib.Path(__file__).resolve().parents[2]
+POINT = [0] * 8
+
+cases = {}
+
+
+def case(name, x, y, n, m, reach, grain, edges):
+    lines = ["(job", f"(plate {x} {y} {n})", f"(cell {m})", f"(reach {reach})", f"(grain {grain})"]
+    for e in edges:
+        lines.append("(edge " + " ".join(f"({a} {b})" for a, b in zip(e[::2], e[1::2])) + ")")
+    cases[name] = "".join(line + "\n" for line in lines + [")"])
+
+
+def line(x0, y0, x1, y1):
+    return [x0, y0, (2 * x0 + x1) // 3, (2 * y0 + y1) // 3, (x0 + 2 * x1) // 3, (y0 + 2 * y1) // 3, x1, y1]
+
+
+def shapes():
+    case("point", -8, -8, 4, 1, 4, 1, [POINT])
+    case("point_off_centre", -20, -9, 5, 1, 6, 2, [[3, -2] * 4])
+    case("line", -40, -30, 7, 2, 9, 3, [line(-20, -10, 60, 50)])
+    case("line_upright", -40, -30, 7, 2, 9, 3, [line(0, -20, 0, 80)])
+    case("parabola", -20, -20, 6, 1, 5, 7, [[0, 0, 0, 4, 4, 8, 12, 12]])
+    case("cusp", -30, -30, 7, 2, 6, 2, [[0, 0, 60, 50, 0, 50, 60, 0]])
+    case("loop", -30, -30, 7, 2, 6, 2, [[0, 0, 90, 54, -30, 54, 60, 0]])
+    case("there_and_back", -30, -30, 7, 2, 6, 2, [[0, 0, 80, 40, 80, 40, 0, 0]])
+    case("flat_s", -30, -30, 7, 2, 6, 2, [[0, 20, 90, 20, -30, 20, 60, 20]])
+    case("two_edges", -30, -30, 7, 2, 6, 2, [line(-20, 0, 20, 0), line(0, 40, 40, 40)])
+    case("last_edge_nearest", -30, -30, 7, 2, 6, 2, [line(60, 60, 90, 90), line(50, -20, 90, -20), [0] * 8])
+    case("edges_64", -40, -40, 8, 3, 7, 2, [line(k, -k, k + 9, 2 * k - 40) for k in range(64)])
+
+
+def plates():
+    case("one_cell", -1, -1, 0, 0, 3, 1, [POINT])
+    case("plate_as_cell", -512, -512, 10, 10, 100, 10, [line(-100, 0, 100, 0)])
+    case("cells_256_a_side", -128, -128, 8, 0, 20, 3, [line(-90, -40, 70, 60), [50, -80, 90, 10, -20, -100, 60, 70]])
+    case("reach_below_band", -64, -64, 7, 2, 1, 8, [line(-40, -20, 40, 30)])
+    case("reach_huge", -64, -64, 7, 2, 1000000, 8, [line(-40, -20, 40, 30)])
+    case("outline_far_off", -64, -64, 7, 2, 10, 100, [line(900000, 900000, 902000, 901000)])
+    case("reach_exact", 0, 0, 4, 1, 8, 1, [POINT])
+    case("corner_at_the_end_of_range", 1000000, 1000000, 4, 1, 8, 1, [[1000000] * 8])
+    case("largest_plate", -524288, -524288, 20, 15, 90000, 20000, [line(-400000, -300000, 400000, 350000)])
+
+
+def extremes():
+    big = 1000000
+    case("extreme_controls", -big, -big, 20, 16, 200000, 100000, [[-big, big, big, -big, -big, -big, big, big]])
+    case("extreme_swing", -big, -big, 20, 16, 200000, 100000, [[big, -big, -big, big, big, -big, -big, big]])
+    straight = [0, 0, 333333, 0, 666666, 0, 999999, 0]
+    case("straight_489", 0, -8, 4, 2, 4, 489, [straight])
+    case("straight_488", 0, -8, 4, 2, 4, 488, [straight])
+
+
+def refused():
+    case("refused_2", -8, -8, 4, 1, 4, 1, [])
+    case("refused_3", -8, -8, 4, 1, 0, 1, [POINT])
+    case("refused_4", -8, -8, 4, 5, 4, 1, [POINT])
+    case("refused_5", -8, -8, 4, 1, 4, 1, [line(0, 0, 999999, 0)])
+    cases["refused_1"] = cases["point"][:-1]
+
+
+def random_jobs():
+    chance = random.Random(20)
+    for k in range(16):
+        span = chance.choice([20, 200, 3000, 40000])
+        n = chance.randint(4, 6) + span.bit_length() - 4
+        edges = [[chance.randint(-span, span) for _ in range(8)] for _ in range(chance.randint(1, 6))]
+        case(f"random_{k:02}", chance.randint(-span, 0), chance.randint(-span, 0), n, n - chance.randint(2, 5),
+             chance.randint(1, span), max(1, span // chance.choice([3, 10, 25])), edges)
+
+
+def store(crate, names):
+    data = TOP / "crates" / crate / "data"
+    data.mkdir(parents=True, exist_ok=True)
+    for old in data.iterdir():
+        old.unlink()
+    for name in names:
+        (data / name).write_text(cases[name])
+    (data.parent / "args").write_text("".join(name + "\n" for name in names))
+
+
+def main():
+    for group in (shapes, plates, extremes, refused, random_jobs):
+        group()
+    small = list(cases)
+    straight = [0, 0, 333333, 0, 666666, 0, 999999, 0]
+    case("refused_6", 0, -8, 4, 2, 4, 489, [straight, straight])
+    for path in sorted((TOP / "examples").glob("*.sheet")):
+        cases["example_" + path.stem] = path.read_text()
+    store("map_cases", list(cases))
+    store("point_cases", small + ["example_bracket", "example_washer"])
+
+
+main()
