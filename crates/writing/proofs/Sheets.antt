@@ -24,7 +24,7 @@ use Rattle.model.specs.Entries.{writeRefusal, write, writeLeaves}
 use Rattle.sheet_text.specs.Numbers.{Small}
 use Rattle.sheet_text.specs.Forms.{AllSmall, nil-small, cons-small}
 use Rattle.sheet_text.specs.Jobs.{Legal, legal, placed-small, passes}
-use Rattle.sheet_text.specs.Code.{headOf, headText, edgesText, codeText, sheet-as-code}
+use Rattle.sheet_text.specs.Code.{headOf, headText, edgesText, codeText, sheet-as-code, room}
 use Rattle.writing.specs.Puts.{Put}
 use Rattle.writing.proofs.Numbers.{put-then, small-fits, small-again}
 
@@ -57,8 +57,17 @@ module _ (j : Job) (ok : judge j ≡ 0) where
   pub places-there : length (j .places) ≡ 512 → 8 * j .count ≤ length (j .places)
   places-there n = omega (arith, legal j ok .few)
 
-  pub few-edges : j .count ≤ 64
-  few-edges = legal j ok .few
+  -- the room that is left after the head, the optional line and the edges
+  module _ (a b c : List ℕ) (i k : ℕ) (space : room ≤ length a) (hi : i ≤ 0 + 73) (hk : k ≤ i + 17) (lb : length b ≡ length a) (lc : length c ≡ length b) where
+    pub edges-space : k + 87 * j .count ≤ length c
+    edges-space = omega (arith, legal j ok .few)
+
+    module _ (d : List ℕ) (m : ℕ) (hm : m ≤ k + 87 * j .count) (ld : length d ≡ length c) where
+      pub end-space : m + 2 ≤ length d
+      end-space = omega (arith, legal j ok .few)
+
+  pub end-by : (i k m n : ℕ) → i ≤ 0 + 73 → k ≤ i + 17 → m ≤ k + 87 * j .count → n ≤ m + 2 → n ≤ room
+  end-by i k m n hi hk hm hn = omega (arith, legal j ok .few)
 
   -- the last line has no numbers
   end-line : (hs : List ℤ) → writeForm endForm hs ≡ writeForm endForm []

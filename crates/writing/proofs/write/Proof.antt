@@ -1,3 +1,4 @@
+use Rattle.writing.proofs.Sheets as sheets
 use borrow.Author.Needs.{needs}
 use Rattle.writing.proofs.write.Statement.{statement}
 use Rattle.writing.proofs.write.Tie as tie
@@ -13,7 +14,7 @@ judge-requires c κs = search needs
 
 -- src/lib.rt:188:9
 returns : tie.Need-returns
-returns c = ?
+returns c = (search (needs, sheets.refused), search (needs, sheets.refused-left))
 
 -- src/lib.rt:191:23
 slice-aggregate-put-sheet : tie.Need-slice-aggregate-put-sheet
@@ -25,7 +26,7 @@ put-sheet-requires c κs = search needs
 
 -- src/lib.rt:193:9
 returns-2 : tie.Need-returns-2
-returns-2 c = ?
+returns-2 c = (search (needs, sheets.no-space), search (needs, sheets.no-space-left))
 
 -- src/lib.rt:198:15
 slice-aggregate-copy : tie.Need-slice-aggregate-copy
@@ -41,7 +42,7 @@ same-length c = search needs
 
 -- src/lib.rt:182:1
 returns-3 : tie.Need-returns-3
-returns-3 c = ?
+returns-3 c = (search (needs, sheets.done), search (needs, sheets.done-left))
 
 pub write-spec : {M : Type 1} → statement M
 write-spec =
