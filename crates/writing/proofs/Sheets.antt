@@ -1,0 +1,138 @@
+-- The needs of `copy`, of `put_sheet` and of `write`. Assumes nothing.
+use mathlib.Core.Path.{_≡_, refl, sym, ap, ap₂, _∙_, subst}
+use mathlib.Core.Bool.{Bool, true, false, cond}
+use mathlib.Core.List.{List, [], _∷_, _++_}
+use Prim.Native.Nat.{ℕ, zero, suc, _+_, _*_, _≤_, _<_}
+use native.Mathlib.Numerals.{add-one}
+use native.Mathlib.Omega.{arith}
+use mir.Syntax.{w32}
+use mir.Val.{toZ, ofZ}
+use mir.ValLaws.{toZ-ofZ}
+use lib.Dec.{leb}
+use lib.IntN.{ℤ, pos}
+use lib.ListN.{length, getD, drop, set}
+use lib.Seq.{paste, paste-suc}
+use borrow.Author.Tests.{le-leb, lt-leb}
+use Rattle.model.specs.declared.Job.{Job}
+use Rattle.model.specs.declared.Written.{Written}
+use Rattle.model.specs.Refusals.{accepted}
+use Rattle.model.specs.Jobs.{counted, ranged, celled, judge}
+use Rattle.model.specs.Forms.{writeForm}
+use Rattle.model.specs.Layouts.{writeLines}
+use Rattle.model.specs.Sheets.{grainForm, endForm, defaultGrain, stated, sheetOf}
+use Rattle.model.specs.Entries.{writeRefusal, write, writeLeaves}
+use Rattle.sheet_text.specs.Numbers.{Small}
+use Rattle.sheet_text.specs.Forms.{AllSmall, nil-small, cons-small}
+use Rattle.sheet_text.specs.Jobs.{Legal, legal, placed-small, passes}
+use Rattle.sheet_text.specs.Code.{headOf, headText, edgesText, codeText, sheet-as-code, room}
+use Rattle.writing.specs.Puts.{Put}
+use Rattle.writing.proofs.Numbers.{put-then, small-fits, small-again}
+
+-- ---- copy
+pub copied : (start out text : List ℕ) (i n : ℕ) → out ≡ paste start 0 text i → i < n → n ≤ length start → n ≤ length text → set out i (getD text i 0) ≡ paste start 0 text (i + 1)
+copied start out text i n e h k l =
+    ap₂ (λ o j. set o j (getD text i 0)) e (let z : i ≡ 0 + i = omega arith in z)
+    ∙ paste-suc start 0 text i 0 (omega arith) (omega arith)
+    ∙ ap (paste start 0 text) (sym (add-one i))
+
+pub all-copied : (start out text : List ℕ) (i n : ℕ) → out ≡ paste start 0 text i → i ≤ n → n ≤ i → out ≡ paste start 0 text n
+all-copied start out text i n e h k = e ∙ ap (paste start 0 text) (let z : i ≡ n = omega arith in z)
+
+-- ---- put_sheet, of a legal job
+module _ (j : Job) (ok : judge j ≡ 0) where
+  pub head-ready : (hs : List ℤ) → hs ≡ headOf j → AllSmall hs
+  head-ready hs e =
+      let l = legal j ok in
+      subst AllSmall (sym e) (cons-small (j .x) _ (l .x-small) (cons-small (j .y) _ (l .y-small) (cons-small (j .n) _ (l .n-small) (cons-small (j .m) _ (l .m-small) (cons-small (j .reach) [] (l .reach-small) nil-small)))))
+
+  pub head-five : (hs : List ℤ) → hs ≡ headOf j → 5 ≤ length hs
+  head-five hs e = rw e (omega arith)
+
+  pub grain-ready : Small (toZ w32 (ofZ w32 (j .grain)))
+  grain-ready = small-again (j .grain) (legal j ok .grain-small)
+
+  pub places-ready : AllSmall (j .places)
+  places-ready = placed-small (8 * j .count) (j .places) (legal j ok .edges)
+
+  pub places-there : length (j .places) ≡ 512 → 8 * j .count ≤ length (j .places)
+  places-there n = omega (arith, legal j ok .few)
+
+  -- the room that is left after the head, the optional line and the edges
+  module _ (a b c : List ℕ) (i k : ℕ) (space : room ≤ length a) (hi : i ≤ 0 + 73) (hk : k ≤ i + 17) (lb : length b ≡ length a) (lc : length c ≡ length b) where
+    pub edges-space : k + 87 * j .count ≤ length c
+    edges-space = omega (arith, legal j ok .few)
+
+    module _ (d : List ℕ) (m : ℕ) (hm : m ≤ k + 87 * j .count) (ld : length d ≡ length c) where
+      pub end-space : m + 2 ≤ length d
+      end-space = omega (arith, legal j ok .few)
+
+  pub end-by : (i k m n : ℕ) → i ≤ 0 + 73 → k ≤ i + 17 → m ≤ k + 87 * j .count → n ≤ m + 2 → n ≤ room
+  end-by i k m n hi hk hm hn = omega (arith, legal j ok .few)
+
+  -- the last line has no numbers
+  end-line : (hs : List ℤ) → writeForm endForm hs ≡ writeForm endForm []
+  unfolding writeForm endForm
+  end-line hs = refl
+
+  pub sheet-put : (a b c d f : List ℕ) (i k m n : ℕ) (hs : List ℤ) → Put a b 0 i (headText hs) → Put b c i k (writeLines grainForm (stated defaultGrain (toZ w32 (ofZ w32 (j .grain))))) → Put c d k m (edgesText (j .count) (j .places)) → Put d f m n (writeForm endForm hs) → hs ≡ headOf j → length (j .places) ≡ 512 → Put a f 0 n (sheetOf j)
+  unfolding codeText
+  sheet-put a b c d f i k m n hs p q r s e x =
+      subst (Put a f 0 n)
+      (ap₂ (λ y z. headText y ++ (writeLines grainForm (stated defaultGrain z) ++ (edgesText (j .count) (j .places) ++ writeForm endForm []))) e (toZ-ofZ w32 (j .grain) (small-fits (j .grain) (legal j ok .grain-small)))
+      ∙ sym (sheet-as-code j (places-there x)))
+      (put-then a b f 0 i n (headText hs) _ p
+      (put-then b c f i k n (writeLines grainForm (stated defaultGrain (toZ w32 (ofZ w32 (j .grain))))) _ q
+      (put-then c d f k m n (edgesText (j .count) (j .places)) (writeForm endForm []) r (subst (Put d f m n) (end-line hs) s))))
+
+-- ---- write
+-- what is refused of the job by itself is refused of the write
+refused-first : (a b c d : Bool) (k : ℕ) → _≡_ {A = ℕ} (cond a (cond b (cond c 0 4) 3) 2) (suc k) → _≡_ {A = ℕ} (cond a (cond b (cond c (cond d 0 7) 4) 3) 2) (suc k)
+refused-first true true true d k h = absurd (omega arith)
+refused-first true true false d k h = h
+refused-first true false c d k h = h
+refused-first false b c d k h = h
+
+module _ (j : Job) (out : List ℕ) where
+  refuse : (k : ℕ) → judge j ≡ suc k → writeRefusal j out ≡ suc k
+  unfolding judge writeRefusal
+  refuse k e = refused-first (counted j) (ranged j) (celled j) (leb (length (sheetOf j)) (length out)) k e
+
+  pub refused : (k : ℕ) → k ≡ judge j → (k ≡ 0 → ⊥) → record { refusal = k; bytes = 0 } ≡ write j out
+  unfolding write accepted
+  refused zero e f = absurd (f refl)
+  refused (suc k) e f = sym (rw (refuse k (sym e)))
+
+  pub refused-left : (k : ℕ) → k ≡ judge j → (k ≡ 0 → ⊥) → out ≡ writeLeaves j out
+  unfolding writeLeaves accepted
+  refused-left zero e f = absurd (f refl)
+  refused-left (suc k) e f = sym (rw (refuse k (sym e)))
+
+  module _ (k : ℕ) (e : k ≡ judge j) (z : k ≡ 0) (before text : List ℕ) (n : ℕ) (p : Put before text 0 n (sheetOf j)) where
+    size : n ≡ length (sheetOf j)
+    size = omega (arith, p .next-is)
+
+    no-room : length out < n → writeRefusal j out ≡ 7
+    unfolding writeRefusal judge
+    no-room h = let l = passes (counted j) (ranged j) (celled j) (sym e ∙ z) in rw (l .0, l .1, l .2, lt-leb (length (sheetOf j)) (length out) (omega (arith, size)))
+
+    has-room : n ≤ length out → writeRefusal j out ≡ 0
+    unfolding writeRefusal judge
+    has-room h = let l = passes (counted j) (ranged j) (celled j) (sym e ∙ z) in rw (l .0, l .1, l .2, le-leb (length (sheetOf j)) (length out) (omega (arith, size)))
+
+    pub no-space : length out < n → record { refusal = 7; bytes = 0 } ≡ write j out
+    unfolding write accepted
+    no-space h = sym (rw (no-room h))
+
+    pub no-space-left : length out < n → out ≡ writeLeaves j out
+    unfolding writeLeaves accepted
+    no-space-left h = sym (rw (no-room h))
+
+    pub done : n ≤ length out → record { refusal = 0; bytes = n } ≡ write j out
+    unfolding write accepted
+    done h = (λ i. record { refusal = 0; bytes = size i }) ∙ sym (rw (has-room h))
+
+    pub done-left : n ≤ length out → (after : List ℕ) → after ≡ paste out 0 text n → after ≡ writeLeaves j out
+    unfolding writeLeaves accepted
+    done-left h after q =
+        q ∙ ap₂ _++_ (p .wrote) (ap (λ u. drop u out) (let y : 0 + n ≡ length (sheetOf j) = omega (arith, size) in y))
+        ∙ sym (rw (has-room h))

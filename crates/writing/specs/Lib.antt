@@ -1,0 +1,2 @@
+-- What the writers leave.
+pub mod Puts
