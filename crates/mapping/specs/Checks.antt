@@ -1,0 +1,136 @@
+-- The checks of the map entry, one after the other: what each that fails gives, and what is known where all pass. Assumes nothing.
+use mathlib.Core.Path.{_≡_, refl, sym, ap, _∙_, subst}
+use mathlib.Core.Bool.{Bool, true, false, not, cond}
+use mathlib.Core.List.{List, [], _∷_, _++_}
+use Prim.Native.Nat.{ℕ, zero, suc, _+_, _-_, _*_, _^_, _≤_, _<_}
+use native.Mathlib.Omega.{arith}
+use lib.Dec.{leb}
+use lib.IntN.{ℤ, pos, negsuc, natAbs, _-ℤ_}
+use lib.ListN.{length}
+use borrow.Author.Tests.{le-leb, lt-leb}
+use Rattle.model.specs.declared.Job.{Job}
+use Rattle.model.specs.declared.Map.{Map}
+use Rattle.model.specs.Refusals as refused
+use Rattle.model.specs.Refusals.{check, accepted}
+use Rattle.model.specs.Jobs.{between, counted, ranged, celled, judge, plateLog, cellLog, edgesFrom, outline}
+use Rattle.model.specs.Trees.{Tree, trees, anyLong}
+use Rattle.model.specs.Store.{width, size, sizes, forest, nodesOf, storeOf}
+use Rattle.model.specs.Plates.{columns, cellsOf, mapOf}
+use Rattle.model.specs.Entries.{mapRefusal, map, mapStore, mapCells, over}
+use Rattle.ranges.specs.Legal.{both, le-of, legal}
+use Rattle.subtrees.specs.Counts.{size-pos}
+
+-- ---- a job that is refused by itself is refused so by every entry, and otherwise the later checks tell
+-- the checks of a job, with those that come after them
+abbrev pub checks : Job → ℕ → ℕ
+checks j later = check refused.edges (counted j) (check refused.range (ranged j) (check refused.cell (celled j) later))
+
+three-refused : (a b c : Bool) (later k : ℕ) → _≡_ {A = ℕ} (cond a (cond b (cond c 0 4) 3) 2) (suc k) → cond a (cond b (cond c later 4) 3) 2 ≡ suc k
+three-refused true true true later k e = absurd (omega arith)
+three-refused true true false later k e = e
+three-refused true false c later k e = e
+three-refused false b c later k e = e
+
+three-passed : (a b c : Bool) (later : ℕ) → _≡_ {A = ℕ} (cond a (cond b (cond c 0 4) 3) 2) 0 → cond a (cond b (cond c later 4) 3) 2 ≡ later
+three-passed true true true later e = refl
+three-passed true true false later e = absurd (omega arith)
+three-passed true false c later e = absurd (omega arith)
+three-passed false b c later e = absurd (omega arith)
+
+pub job-refused : (j : Job) (later k : ℕ) → judge j ≡ suc k → checks j later ≡ suc k
+unfolding judge
+job-refused j later k e = three-refused (counted j) (ranged j) (celled j) later k e
+
+pub job-passed : (j : Job) (later : ℕ) → judge j ≡ 0 → checks j later ≡ later
+unfolding judge
+job-passed j later e = three-passed (counted j) (ranged j) (celled j) later e
+
+-- ---- the map's own checks
+module _ (j : Job) (s : List ℤ) (c : List ℕ) where
+  pub map-refused : (k : ℕ) → judge j ≡ k → (k ≡ 0 → ⊥) → k ≡ mapRefusal j s c
+  unfolding mapRefusal
+  map-refused zero e h = absurd (h refl)
+  map-refused (suc k) e h = sym (job-refused j _ k e)
+
+  pub map-long : judge j ≡ 0 → anyLong (forest j) ≡ true → 5 ≡ mapRefusal j s c
+  unfolding mapRefusal
+  map-long e l = sym (job-passed j _ e ∙ rw l)
+
+  pub map-store : judge j ≡ 0 → anyLong (forest j) ≡ false → length s < 7 * nodesOf j → 6 ≡ mapRefusal j s c
+  unfolding mapRefusal
+  map-store e l h = sym (job-passed j _ e ∙ rw (l, lt-leb (7 * nodesOf j) (length s) h))
+
+  pub map-space : judge j ≡ 0 → anyLong (forest j) ≡ false → 7 * nodesOf j ≤ length s → length c < cellsOf j → 7 ≡ mapRefusal j s c
+  unfolding mapRefusal
+  map-space e l h m = sym (job-passed j _ e ∙ rw (l, le-leb (7 * nodesOf j) (length s) h, lt-leb (cellsOf j) (length c) m))
+
+  pub map-passed : judge j ≡ 0 → anyLong (forest j) ≡ false → 7 * nodesOf j ≤ length s → cellsOf j ≤ length c → 0 ≡ mapRefusal j s c
+  unfolding mapRefusal
+  map-passed e l h m = sym (job-passed j _ e ∙ rw (l, le-leb (7 * nodesOf j) (length s) h, le-leb (cellsOf j) (length c) m))
+
+-- ---- the count of nodes is 0 for a long job and only there
+sizes-some : (ts : List Tree) → 1 ≤ length ts → 1 ≤ sizes ts
+sizes-some [] h = absurd (omega arith)
+sizes-some (t ∷ ts) h = omega (arith, size-pos t)
+
+edges-long : (T : ℤ) (vs : List ℤ) (k e : ℕ) → length (trees T (edgesFrom vs k e)) ≡ k
+unfolding edgesFrom
+edges-long T vs zero e = refl
+edges-long T vs (suc k) e = ap suc (edges-long T vs k (e + 1))
+
+pub forest-is : (j : Job) → forest j ≡ trees (j .grain) (edgesFrom (j .places) (j .count) 0)
+unfolding forest outline
+forest-is j = refl
+
+some-nodes : (j : Job) → judge j ≡ 0 → 1 ≤ nodesOf j
+some-nodes j e = sizes-some (forest j) (omega (arith, legal j e .some, ap length (forest-is j) ∙ edges-long (j .grain) (j .places) (j .count) 0))
+
+told : (b : Bool) (n k : ℕ) → k ≡ cond b 0 n → 1 ≤ n → ((k ≡ 0) → b ≡ true) × ((k ≡ 0 → ⊥) → (b ≡ false) × (k ≡ n))
+told true n k e h = ((λ z. refl), (λ z. absurd (z e)))
+told false n k e h = ((λ z. absurd (omega arith)), (λ z. (refl, e)))
+
+-- what a count of 0 says, and any other
+module _ (j : Job) (ok : judge j ≡ 0) (k : ℕ) (e : k ≡ cond (anyLong (trees (j .grain) (edgesFrom (j .places) (j .count) 0))) 0 (sizes (trees (j .grain) (edgesFrom (j .places) (j .count) 0)))) where
+  counted-is : k ≡ cond (anyLong (forest j)) 0 (nodesOf j)
+  counted-is = e ∙ ap (λ ts. cond (anyLong ts) 0 (sizes ts)) (sym (forest-is j))
+
+  pub none-long : k ≡ 0 → anyLong (forest j) ≡ true
+  none-long = told (anyLong (forest j)) (nodesOf j) k counted-is (some-nodes j ok) .0
+
+  pub some-short : (k ≡ 0 → ⊥) → (anyLong (forest j) ≡ false) × (k ≡ nodesOf j)
+  some-short = told (anyLong (forest j)) (nodesOf j) k counted-is (some-nodes j ok) .1
+
+-- ---- N and M of a legal job as natural numbers
+pub record Logs (j : Job) : Type 0 where
+  pub n-is : j .n ≡ pos (plateLog j)
+  pub m-is : j .m ≡ pos (cellLog j)
+  pub n-most : plateLog j ≤ 20
+  pub m-least : cellLog j ≤ plateLog j
+  pub few : plateLog j - cellLog j ≤ 8
+
+level : (z : ℤ) → between (pos 0) (pos 20) z ≡ true → (z ≡ pos (natAbs z)) × (natAbs z ≤ 20)
+unfolding between
+level (pos n) e = (refl, le-of n 20 (both (leZ (pos 0) (pos n)) (leZ (pos n) (pos 20)) e .1))
+level (negsuc n) e = absurd (subst T (sym e) tt)
+
+ordered : (n m : ℤ) → n ≡ pos (natAbs n) → m ≡ pos (natAbs m) → leZ m n ≡ true → natAbs m ≤ natAbs n
+ordered (pos a) (pos b) e f h = le-of b a h
+ordered (pos a) (negsuc b) e f h = absurd (subst isPos f tt)
+ordered (negsuc a) m e f h = absurd (subst isPos e tt)
+
+near : (a b : ℕ) → b ≤ a → leZ (pos a -ℤ pos b) (pos 8) ≡ true → a - b ≤ 8
+near a b h e = le-of (a - b) 8 (subst (λ z. leZ z (pos 8) ≡ true) (minus a b h) e)
+
+pub logs : (j : Job) → judge j ≡ 0 → Logs j
+logs j e =
+    let l = legal j e in
+    let n = level (j .n) (l .in-range .n-in) in
+    let m = level (j .m) (l .in-range .m-in) in
+    let o = ordered (j .n) (j .m) (n .0) (m .0) (l .cell-fits) in
+    record {
+      n-is = n .0;
+      m-is = m .0;
+      n-most = n .1;
+      m-least = o;
+      few = near (plateLog j) (cellLog j) o (subst (λ z. leZ z (pos 8) ≡ true) (ap₂ (λ a b. a -ℤ b) (n .0) (m .0)) (l .few-cells));
+    }

@@ -1,0 +1,2 @@
+-- The map entry's checks, one after the other.
+pub mod Checks
