@@ -4,7 +4,7 @@ use Prim.Native.Nat.{ℕ, _+_, _*_, _≤_, _<_, _^_}
 use native.Mathlib.Nat.{le-trans, mul-le-mul-right}
 use native.Mathlib.Omega.{arith}
 use lib.Dec.{T, ltb}
-use lib.IntN.{ℤ, pos, natAbs, _+ℤ_, _*ℤ_}
+use lib.IntN.{ℤ, pos, negsuc, natAbs, _+ℤ_, _*ℤ_}
 use lib.Signed.{nonNeg, yes-nonNeg}
 use mir.Syntax.{w64}
 use mir.Val.{SFits, toZ, ofZ}
@@ -36,9 +36,9 @@ single n c w Q h k = le-trans (mul-le-mul-right Q (part n c w k)) h
 middle-size : (x q : ℤ) (n c w : ℕ) → natAbs x ≤ 16777216 → n * natAbs q ≤ 8388608 → c + w ≤ n → natAbs (middle x q c w) ≤ 536870912
 middle-size x q n c w hx h k = omega (arith, natAbs-add x (pos (2 * c + w) *ℤ q), natAbs-mul (pos (2 * c + w)) q, doubled n c w (natAbs q) h k)
 
-nonneg-times : (k : ℕ) (q : ℤ) → T (nonNeg q) → T (nonNeg (pos k *ℤ q))
+pub nonneg-times : (k : ℕ) (q : ℤ) → T (nonNeg q) → T (nonNeg (pos k *ℤ q))
 nonneg-times k (pos m) t = tt
-nonneg-times k (lib.IntN.negsuc m) t = absurd t
+nonneg-times k (negsuc m) t = absurd t
 
 module _ (f : Frame) (s : FrameSized f) (c r w : ℕ) (hc : c + w ≤ f .n) (hr : r + w ≤ f .n) where
   pub block-sized : CellSized (middle (f .x) (f .q) c w) (middle (f .y) (f .q) r w) (pos w *ℤ f .q) (f .reach)

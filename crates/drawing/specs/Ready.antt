@@ -1,7 +1,7 @@
 -- What drawing asks for: a frame in which no number leaves its bounds, a block of it, a store with the open trees. Assumes nothing.
 use mathlib.Core.Path.{_≡_}
 use mathlib.Core.List.{List, _++_}
-use Prim.Native.Nat.{ℕ, _+_, _*_, _^_, _≤_}
+use Prim.Native.Nat.{ℕ, _+_, _-_, _*_, _^_, _≤_, _<_}
 use lib.Dec.{T}
 use lib.IntN.{ℤ, natAbs}
 use lib.Signed.{nonNeg}
@@ -37,6 +37,17 @@ pub record Ready (store : List ℤ) (list : List ℕ) (count : ℕ) (f : Frame) 
   pub power : PowerOfTwo w
   pub columns-fit : c + w ≤ f .n
   pub rows-fit : r + w ≤ f .n
+
+-- the job's numbers that make the frame
+pub record NumbersSized (x y : ℤ) (n m : ℕ) (reach : ℤ) : Type 0 where
+  pub corner-x : natAbs x ≤ 1000000
+  pub corner-y : natAbs y ≤ 1000000
+  pub plate-size : n ≤ 20
+  pub cell-size : m ≤ n
+  pub few : n - m ≤ 8
+  pub reach-size : natAbs reach ≤ 1000000
+  pub reach-above : 0 < natAbs reach
+  pub reach-nonneg : T (nonNeg reach)
 
 -- a job whose numbers these are, with its trees at the front of the store and room for its map
 pub record MapReady (j : Job) (cells : List ℕ) (store : List ℤ) (count : ℕ) (x y : ℤ) (n m : ℕ) (reach : ℤ) : Type 0 where

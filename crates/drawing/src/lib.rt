@@ -17,8 +17,8 @@ ghost use Rattle.inheritance.specs.Edges.{EachInherits, opened};
 ghost use Rattle.inheritance.specs.Blocks.{middle as middleOf};
 ghost use Rattle.open_edges.specs.Starts.{Starts};
 ghost use Rattle.filling.specs.Squares.{In, over, Drawn};
-ghost use Rattle.drawing.specs.Letters.{asked, ownLetter};
-ghost use Rattle.drawing.specs.Ready.{Ready, MapReady, AnyReady};
+ghost use Rattle.drawing.specs.Letters.{frameOf, asked, ownLetter};
+ghost use Rattle.drawing.specs.Ready.{Ready, NumbersSized, MapReady, AnyReady};
 
 // Where the map lies: cells a side, the lower left corner and half a smallest cell's side in fine units, and the reach in fine units.
 pub struct Frame {
@@ -147,4 +147,54 @@ fn draw(
     draw(map, store, &keep, kept, frame, c + h, r, h);
     draw(map, store, &keep, kept, frame, c, r + h, h);
     draw(map, store, &keep, kept, frame, c + h, r + h, h);
+}
+
+fn power_of_two(k: usize) -> usize
+    requires { ⌜ k ≤ 20 ⌝ }
+    ensures power { λ r. ⌜ r ≡ 2 ^ k ⌝ }
+{
+    let mut v: usize = 1;
+    let mut i: usize = 0;
+    while i < k {
+        v = v * 2;
+        i += 1;
+    }
+    v
+}
+
+// the frame of a plate of side 2^n with its corner at (x, y) and smallest cells of side 2^m
+fn frame_of(x: i64, y: i64, n: usize, m: usize, reach: i64) -> Frame
+    requires { ⌜ NumbersSized x y n m reach ⌝ }
+    ensures frame { λ f. ⌜ f ≡ frameOf x y n m reach ⌝ }
+{
+    let side = power_of_two(n - m);
+    let unit = 8 * power_of_two(m);
+    Frame {
+        n: side,
+        x: 16 * x,
+        y: 16 * y,
+        q: unit as i64,
+        reach: 16 * reach,
+    }
+}
+
+// draws the map of the job with these numbers, whose trees the store begins with
+pub fn draw_map(
+    cells: &mut [u8],
+    store: &[i32],
+    count: usize,
+    x: i64,
+    y: i64,
+    n: usize,
+    m: usize,
+    reach: i64,
+)
+    requires { ⌜ AnyReady (now cells) (now store) count x y n m reach ⌝ }
+    ensures map { λ _. ⌜ ((j : Job) → MapReady j (now (cells .entry)) (now (store .entry)) count x y n m reach → now (cells .exit) ≡ written (mapOf j) (now (cells .entry))) ⌝ }
+{
+    let mut list = no_starts();
+    open_edges::list_starts(store, count, &mut list);
+    let frame = frame_of(x, y, n, m, reach);
+    let side = frame.n;
+    draw(cells, store, &list, count, frame, 0, 0, side);
 }
