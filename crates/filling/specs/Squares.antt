@@ -10,6 +10,13 @@ use lib.ListN.{getD}
 abbrev pub among : ℕ → ℕ → ℕ → Bool
 among c w i = leb c i && ltb i (c + w)
 
+-- cell (i, j) is one of the square of side w at column c and row r
+pub record In (c r w i j : ℕ) : Type 0 where
+  pub left : c ≤ i
+  pub right : i < c + w
+  pub low : r ≤ j
+  pub high : j < r + w
+
 -- cell (i, j) becomes f i j in the square of side w at column c and row r, and any other stays as it was
 abbrev pub over : (ℕ → ℕ → ℕ) → ℕ → ℕ → ℕ → ℕ → ℕ → ℕ → ℕ
 over f c r w i j old = cond (among c w i && among r w j) (f i j) old

@@ -1,0 +1,4 @@
+pub mod Cells
+pub mod Settles
+pub mod Quartered
+pub mod Maps
