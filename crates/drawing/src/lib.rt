@@ -149,7 +149,7 @@ fn draw(
     draw(map, store, &keep, kept, frame, c + h, r + h, h);
 }
 
-fn power_of_two(k: usize) -> usize
+pub fn power_of_two(k: usize) -> usize
     requires { ⌜ k ≤ 20 ⌝ }
     ensures power { λ r. ⌜ r ≡ 2 ^ k ⌝ }
 {

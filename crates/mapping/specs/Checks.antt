@@ -1,24 +1,23 @@
 -- The checks of the map entry, one after the other: what each that fails gives, and what is known where all pass. Assumes nothing.
-use mathlib.Core.Path.{_≡_, refl, sym, ap, _∙_, subst}
-use mathlib.Core.Bool.{Bool, true, false, not, cond}
-use mathlib.Core.List.{List, [], _∷_, _++_}
-use Prim.Native.Nat.{ℕ, zero, suc, _+_, _-_, _*_, _^_, _≤_, _<_}
+use mathlib.Core.Path.{_≡_, refl, sym, ap, _∙_}
+use mathlib.Core.Bool.{Bool, true, false, cond}
+use mathlib.Core.List.{List, [], _∷_}
+use Prim.Native.Nat.{ℕ, zero, suc, _+_, _*_, _≤_, _<_}
 use native.Mathlib.Omega.{arith}
-use lib.Dec.{leb}
-use lib.IntN.{ℤ, pos, negsuc, natAbs, _-ℤ_}
+use lib.IntN.{ℤ}
 use lib.ListN.{length}
 use borrow.Author.Tests.{le-leb, lt-leb}
 use Rattle.model.specs.declared.Job.{Job}
 use Rattle.model.specs.declared.Map.{Map}
 use Rattle.model.specs.Refusals as refused
 use Rattle.model.specs.Refusals.{check, accepted}
-use Rattle.model.specs.Jobs.{between, counted, ranged, celled, judge, plateLog, cellLog, edgesFrom, outline}
+use Rattle.model.specs.Jobs.{counted, ranged, celled, judge, edgesFrom, outline}
 use Rattle.model.specs.Trees.{Tree, trees, anyLong}
-use Rattle.model.specs.Store.{width, size, sizes, forest, nodesOf, storeOf}
-use Rattle.model.specs.Plates.{columns, cellsOf, mapOf}
+use Rattle.model.specs.Store.{sizes, forest, nodesOf, storeOf}
+use Rattle.model.specs.Plates.{cellsOf, mapOf}
 use Rattle.model.specs.Entries.{mapRefusal, map, mapStore, mapCells, over}
-use Rattle.ranges.specs.Legal.{both, le-of, legal}
-use Rattle.subtrees.specs.Counts.{size-pos}
+use Rattle.ranges.specs.Legal.{legal}
+use Rattle.subtrees.specs.Preorder.{size-pos}
 
 -- ---- a job that is refused by itself is refused so by every entry, and otherwise the later checks tell
 -- the checks of a job, with those that come after them
@@ -100,37 +99,53 @@ module _ (j : Job) (ok : judge j ≡ 0) (k : ℕ) (e : k ≡ cond (anyLong (tree
   pub some-short : (k ≡ 0 → ⊥) → (anyLong (forest j) ≡ false) × (k ≡ nodesOf j)
   some-short = told (anyLong (forest j)) (nodesOf j) k counted-is (some-nodes j ok) .1
 
--- ---- N and M of a legal job as natural numbers
-pub record Logs (j : Job) : Type 0 where
-  pub n-is : j .n ≡ pos (plateLog j)
-  pub m-is : j .m ≡ pos (cellLog j)
-  pub n-most : plateLog j ≤ 20
-  pub m-least : cellLog j ≤ plateLog j
-  pub few : plateLog j - cellLog j ≤ 8
+-- ---- where every check passes
+pub record Passed (j : Job) (numbers room nodes : ℕ) : Type 0 where
+  pub judged : judge j ≡ 0
+  pub short : anyLong (forest j) ≡ false
+  pub nodes-are : nodes ≡ nodesOf j
+  pub store-fits : 7 * nodesOf j ≤ numbers
+  pub cells-fit : cellsOf j ≤ room
 
-level : (z : ℤ) → between (pos 0) (pos 20) z ≡ true → (z ≡ pos (natAbs z)) × (natAbs z ≤ 20)
-unfolding between
-level (pos n) e = (refl, le-of n 20 (both (leZ (pos 0) (pos n)) (leZ (pos n) (pos 20)) e .1))
-level (negsuc n) e = absurd (subst T (sym e) tt)
+-- the refusal for lent memory of these lengths
+pub record Refuses (j : Job) (numbers room k : ℕ) : Type 0 where
+  pub given : (s : List ℤ) (c : List ℕ) → length s ≡ numbers → length c ≡ room → k ≡ mapRefusal j s c
 
-ordered : (n m : ℤ) → n ≡ pos (natAbs n) → m ≡ pos (natAbs m) → leZ m n ≡ true → natAbs m ≤ natAbs n
-ordered (pos a) (pos b) e f h = le-of b a h
-ordered (pos a) (negsuc b) e f h = absurd (subst isPos f tt)
-ordered (negsuc a) m e f h = absurd (subst isPos e tt)
+-- ---- the answer and what it leaves
+module _ (j : Job) (s : List ℤ) (c : List ℕ) where
+  refused-is : (k n : ℕ) {A : Type 0} (a b : A) → k ≡ n → (k ≡ 0 → ⊥) → accepted n a b ≡ b
+  unfolding accepted
+  refused-is zero n a b e h = absurd (h refl)
+  refused-is (suc k) zero a b e h = absurd (omega arith)
+  refused-is (suc k) (suc n) a b e h = refl
 
-near : (a b : ℕ) → b ≤ a → leZ (pos a -ℤ pos b) (pos 8) ≡ true → a - b ≤ 8
-near a b h e = le-of (a - b) 8 (subst (λ z. leZ z (pos 8) ≡ true) (minus a b h) e)
+  accepted-is : (n : ℕ) {A : Type 0} (a b : A) → 0 ≡ n → accepted n a b ≡ a
+  unfolding accepted
+  accepted-is zero a b e = refl
+  accepted-is (suc n) a b e = absurd (omega arith)
 
-pub logs : (j : Job) → judge j ≡ 0 → Logs j
-logs j e =
-    let l = legal j e in
-    let n = level (j .n) (l .in-range .n-in) in
-    let m = level (j .m) (l .in-range .m-in) in
-    let o = ordered (j .n) (j .m) (n .0) (m .0) (l .cell-fits) in
-    record {
-      n-is = n .0;
-      m-is = m .0;
-      n-most = n .1;
-      m-least = o;
-      few = near (plateLog j) (cellLog j) o (subst (λ z. leZ z (pos 8) ≡ true) (ap₂ (λ a b. a -ℤ b) (n .0) (m .0)) (l .few-cells));
-    }
+  module _ (k : ℕ) (e : k ≡ mapRefusal j s c) (h : k ≡ 0 → ⊥) where
+    pub refused-answer : _≡_ {A = Map} (record { refusal = k; nodes = 0 }) (map j s c)
+    unfolding map
+    refused-answer = λ i. record { refusal = e i; nodes = sym (refused-is k (mapRefusal j s c) (nodesOf j) 0 e h) i }
+
+    pub refused-store : s ≡ mapStore j s c
+    unfolding mapStore
+    refused-store = sym (refused-is k (mapRefusal j s c) (over (storeOf j) s) s e h)
+
+    pub refused-cells : c ≡ mapCells j s c
+    unfolding mapCells
+    refused-cells = sym (refused-is k (mapRefusal j s c) (over (mapOf j) c) c e h)
+
+  module _ (e : 0 ≡ mapRefusal j s c) where
+    pub accepted-answer : (n : ℕ) → n ≡ nodesOf j → _≡_ {A = Map} (record { refusal = 0; nodes = n }) (map j s c)
+    unfolding map
+    accepted-answer n f = λ i. record { refusal = e i; nodes = (f ∙ sym (accepted-is (mapRefusal j s c) (nodesOf j) 0 e)) i }
+
+    pub accepted-store : (t : List ℤ) → t ≡ over (storeOf j) s → t ≡ mapStore j s c
+    unfolding mapStore
+    accepted-store t f = f ∙ sym (accepted-is (mapRefusal j s c) (over (storeOf j) s) s e)
+
+    pub accepted-cells : (d : List ℕ) → d ≡ over (mapOf j) c → d ≡ mapCells j s c
+    unfolding mapCells
+    accepted-cells d f = f ∙ sym (accepted-is (mapRefusal j s c) (over (mapOf j) c) c e)

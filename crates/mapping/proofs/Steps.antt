@@ -1,0 +1,167 @@
+-- The needs of the map entry's functions, over plain variables. Assumes nothing.
+use mathlib.Core.Path.{_≡_, refl, sym, ap, ap₂, _∙_, subst}
+use mathlib.Core.Bool.{Bool, true, false, cond}
+use mathlib.Core.List.{List, _++_}
+use Prim.Native.Nat.{ℕ, zero, suc, _+_, _-_, _*_, _^_, _≤_, _<_}
+use native.Mathlib.Nat.{mul-le-mul, pow-le-pow-right}
+use native.Mathlib.Omega.{arith}
+use lib.Dec.{T, lit<}
+use lib.IntN.{ℤ, pos, negsuc, natAbs}
+use lib.Signed.{mag, nonNeg}
+use lib.ListN.{length, drop}
+use mir.Syntax.{w32, w64}
+use mir.Val.{Fits, SFits, toZ, ofZ}
+use mir.Facts.{toZ-ofZ, fits-natAbs}
+use Rattle.integers.specs.Signed.{read32, read64}
+use Rattle.model.specs.declared.Job.{Job}
+use Rattle.model.specs.declared.Map.{Map}
+use Rattle.model.specs.Jobs.{between, judge, plateLog, cellLog, edgeAt, edgesFrom}
+use Rattle.model.specs.Trees.{Tree, trees, anyLong}
+use Rattle.model.specs.Store.{size, sizes, flatten, flattenAll, forest, nodesOf, storeOf}
+use Rattle.model.specs.Plates.{columns, cellsOf, mapOf}
+use Rattle.model.specs.Entries.{over, mapRefusal, map, mapStore, mapCells}
+use Rattle.ranges.specs.Legal.{both, le-of, legal}
+use Rattle.ranges.specs.Jobs.{Limits, GrainSized, JobSized, judge-sized, forest-sized}
+use Rattle.subtrees.specs.Preorder.{length-all}
+use Rattle.forests.proofs.Steps.{few-nodes}
+use Rattle.drawing.specs.Ready.{NumbersSized, MapReady, AnyReady}
+use Rattle.drawing.proofs.Maps.{job-numbers}
+use Rattle.mapping.specs.Checks.{Passed, Refuses, forest-is, map-refused, map-long, map-store, map-space, map-passed, none-long, some-short}
+use Rattle.mapping.specs.Placed.{Places}
+use Rattle.mapping.specs.declared.Placing.{Placing}
+use Rattle.mapping.specs.declared.Checked.{Checked}
+
+-- ---- N and M
+level-above : (z : ℤ) → between (pos 0) (pos 20) z ≡ true → T (nonNeg z)
+unfolding between
+level-above (pos n) e = tt
+level-above (negsuc n) e = subst T (sym e) tt
+
+pub n-above : (j : Job) → judge j ≡ 0 → mag (j .n) < 2 ^ 31 → T (nonNeg (toZ w32 (ofZ w32 (j .n))))
+n-above j e f = rw (read32 (j .n) f) (level-above (j .n) (legal j e .in-range .n-in))
+
+pub m-above : (j : Job) → judge j ≡ 0 → mag (j .m) < 2 ^ 31 → T (nonNeg (toZ w32 (ofZ w32 (j .m))))
+m-above j e f = rw (read32 (j .m) f) (level-above (j .m) (legal j e .in-range .m-in))
+
+-- ---- cells
+module _ (j : Job) (ok : judge j ≡ 0) (p : Placing) (h : Places p j) where
+  pub m-below : p .m ≤ p .n
+  m-below = omega (arith, h .n-is, h .m-is, job-numbers j ok .cell-size)
+
+  pub few-levels : p .n - p .m ≤ 20
+  few-levels = omega (arith, h .n-is, h .m-is, job-numbers j ok .few)
+
+  side-few : (k : ℕ) → k ≤ 8 → 2 ^ k ≤ 256
+  side-few k l = pow-le-pow-right {n = 2} (lit< tt) {i = k} {j = 8} l
+
+  pub cells-fit-word : (v : ℕ) → v ≡ 2 ^ (p .n - p .m) → Fits w64 (v * v)
+  cells-fit-word v e =
+      let k : p .n - p .m ≤ 8 = omega (arith, h .n-is, h .m-is, job-numbers j ok .few) in
+      let l : v ≤ 256 = rw e (side-few (p .n - p .m) k) in
+      record { fits = omega (arith, mul-le-mul l l) }
+
+  pub cells-are : (v : ℕ) → v ≡ 2 ^ (p .n - p .m) → v * v ≡ cellsOf j
+  cells-are v e = ap (λ u. u * u) (e ∙ ap₂ (λ a b. 2 ^ (a - b)) (h .n-is) (h .m-is))
+
+-- ---- the checks
+-- what counting gives at a grain
+abbrev countedBy : Job → ℤ → ℕ
+countedBy j T = cond (anyLong (trees T (edgesFrom (j .places) (j .count) 0))) 0 (sizes (trees T (edgesFrom (j .places) (j .count) 0)))
+
+module _ (j : Job) (numbers room : ℕ) (r : Checked) where
+  abbrev Told : Type 0
+  Told = Refuses j numbers room (r .refusal) × (r .refusal ≡ 0 → Passed j numbers room (r .nodes))
+
+  refused-by : (k : ℕ) → (k ≡ 0 → ⊥) → ((s : List ℤ) (c : List ℕ) → length s ≡ numbers → length c ≡ room → k ≡ mapRefusal j s c) → r .refusal ≡ k → Told
+  refused-by k z f e = (record { given = λ s c g h. e ∙ f s c g h }, λ w. absurd (z (sym e ∙ w)))
+
+  pub refused-early : (k : ℕ) → k ≡ judge j → (k ≡ 0 → ⊥) → (r .refusal ≡ k) × (r .nodes ≡ 0) → Told
+  refused-early k e z w = refused-by k z (λ s c g h. map-refused j s c k (sym e) z) (w .0)
+
+  module _ (k : ℕ) (e : k ≡ judge j) (zero-judged : k ≡ 0) (g : mag (j .grain) < 2 ^ 31) (n : ℕ) (b : n ≡ countedBy j (toZ w32 (ofZ w32 (j .grain)))) where
+    f : n ≡ countedBy j (j .grain)
+    f = b ∙ ap (countedBy j) (read32 (j .grain) g)
+
+    judged : judge j ≡ 0
+    judged = sym e ∙ zero-judged
+
+    pub refused-long : n ≡ 0 → (r .refusal ≡ 5) × (r .nodes ≡ 0) → Told
+    refused-long z w = refused-by 5 (λ u. omega arith) (λ s c g h. map-long j s c judged (none-long j judged n f z)) (w .0)
+
+    module _ (some : n ≡ 0 → ⊥) where
+      kept : (anyLong (forest j) ≡ false) × (n ≡ nodesOf j)
+      kept = some-short j judged n f some
+
+      pub refused-store : numbers < 7 * n → (r .refusal ≡ 6) × (r .nodes ≡ 0) → Told
+      refused-store l w = refused-by 6 (λ u. omega arith) (λ s c g h. map-store j s c judged (kept .0) (omega (arith, kept .1, g))) (w .0)
+
+      module _ (fits : 7 * n ≤ numbers) (v : ℕ) (cells : v ≡ cellsOf j) where
+        pub refused-space : room < v → (r .refusal ≡ 7) × (r .nodes ≡ 0) → Told
+        refused-space l w = refused-by 7 (λ u. omega arith) (λ s c g h. map-space j s c judged (kept .0) (omega (arith, kept .1, g)) (omega (arith, cells, h))) (w .0)
+
+-- the last: everything passed
+pub all-passed : (j : Job) (numbers room k n v : ℕ) → k ≡ judge j → k ≡ 0 → mag (j .grain) < 2 ^ 31 → n ≡ countedBy j (toZ w32 (ofZ w32 (j .grain))) → (n ≡ 0 → ⊥) → 7 * n ≤ numbers → v ≡ cellsOf j → v ≤ room → Refuses j numbers room 0 × (_≡_ {A = ℕ} 0 0 → Passed j numbers room n)
+all-passed j numbers room k n v e z g b some fits cells l =
+    let ok = sym e ∙ z in
+    let f : n ≡ countedBy j (j .grain) = b ∙ ap (countedBy j) (read32 (j .grain) g) in
+    let w = some-short j ok n f some in (
+      record { given = λ s c g h. map-passed j s c ok (w .0) (omega (arith, w .1, g)) (omega (arith, cells, h)) },
+      λ u. record { judged = ok; short = w .0; nodes-are = w .1; store-fits = omega (arith, w .1); cells-fit = omega (arith, cells) },
+    )
+
+-- ---- a legal job's numbers, as the trees take them
+module _ (j : Job) (k : ℕ) (q : k ≡ judge j) (z : k ≡ 0) (g : mag (j .grain) < 2 ^ 31) where
+  pub places-ready : Limits (j .places) × (j .count ≤ 64) × GrainSized (toZ w32 (ofZ w32 (j .grain)))
+  places-ready = let s = judge-sized j (sym q ∙ z) in (s .places-in, s .few-edges, rw (read32 (j .grain) g) (s .grain-in-range))
+
+-- ---- few nodes
+sizes-few : (T : ℤ) (vs : List ℤ) (k e : ℕ) → sizes (trees T (edgesFrom vs k e)) ≤ 2048 * k
+unfolding edgesFrom
+sizes-few T vs zero e = omega arith
+sizes-few T vs (suc k) e = omega (arith, few-nodes T (edgeAt vs e), sizes-few T vs k (e + 1))
+
+none-or : (b : Bool) (n k : ℕ) → k ≡ cond b 0 n → k ≤ n
+none-or true n k e = omega arith
+none-or false n k e = omega arith
+
+pub numbers-fit : (j : Job) (k : ℕ) → k ≡ judge j → k ≡ 0 → mag (j .grain) < 2 ^ 31 → (n : ℕ) → n ≡ countedBy j (toZ w32 (ofZ w32 (j .grain))) → Fits w64 (7 * n)
+numbers-fit j k q z g n b =
+    let ok = sym q ∙ z in
+    let e : n ≡ countedBy j (j .grain) = b ∙ ap (countedBy j) (read32 (j .grain) g) in
+    record { fits = omega (arith, none-or (anyLong (trees (j .grain) (edgesFrom (j .places) (j .count) 0))) (sizes (trees (j .grain) (edgesFrom (j .places) (j .count) 0))) n e, sizes-few (j .grain) (j .places) (j .count) 0, legal j ok .few) }
+
+-- ---- the trees and the map
+module _ (j : Job) (numbers room nodes : ℕ) (h : Passed j numbers room nodes) where
+  module _ (g : mag (j .grain) < 2 ^ 31) where
+    pub trees-ready : Limits (j .places) × (j .count ≤ 64) × GrainSized (toZ w32 (ofZ w32 (j .grain))) × (anyLong (trees (toZ w32 (ofZ w32 (j .grain))) (edgesFrom (j .places) (j .count) 0)) ≡ false) × (7 * sizes (trees (toZ w32 (ofZ w32 (j .grain))) (edgesFrom (j .places) (j .count) 0)) ≤ numbers)
+    trees-ready =
+        let s = judge-sized j (h .judged) in
+        rw (read32 (j .grain) g) (s .places-in, s .few-edges, s .grain-in-range, ap anyLong (sym (forest-is j)) ∙ h .short, omega (arith, h .store-fits, ap sizes (forest-is j)))
+
+    pub store-now : (old new : List ℤ) → new ≡ flattenAll (trees (toZ w32 (ofZ w32 (j .grain))) (edgesFrom (j .places) (j .count) 0)) ++ drop (7 * sizes (trees (toZ w32 (ofZ w32 (j .grain))) (edgesFrom (j .places) (j .count) 0))) old → new ≡ over (storeOf j) old
+    store-now old new e =
+        e ∙ rw (read32 (j .grain) g)
+        (ap (λ ts. flattenAll ts ++ drop (7 * sizes ts) old) (sym (forest-is j)) ∙ ap (λ n. storeOf j ++ drop n old) (sym (length-all (forest j))))
+
+-- the trees that were built and the numbers that were placed are what the drawing asks for
+pub map-now : (j : Job) (nodes : ℕ) (old new : List ℤ) (cells : List ℕ) → Passed j (length old) (length cells) nodes → mag (j .grain) < 2 ^ 31 → new ≡ flattenAll (trees (toZ w32 (ofZ w32 (j .grain))) (edgesFrom (j .places) (j .count) 0)) ++ drop (7 * sizes (trees (toZ w32 (ofZ w32 (j .grain))) (edgesFrom (j .places) (j .count) 0))) old → (p : Placing) → Places p j → MapReady j cells new (j .count) (p .x) (p .y) (p .n) (p .m) (p .reach)
+map-now j nodes old new cells h g e p q = record {
+  accepted = h .judged;
+  count-is = refl;
+  x-is = q .x-is;
+  y-is = q .y-is;
+  n-is = q .n-is;
+  m-is = q .m-is;
+  reach-is = q .reach-is;
+  rest = drop (length (storeOf j)) old;
+  store-is = store-now j (length old) (length cells) nodes h g old new e;
+  sized = forest-sized j (judge-sized j (h .judged));
+  room = h .cells-fit;
+}
+
+-- ---- values read back from their bits
+pub wide-back : (w z : ℤ) → w ≡ toZ w32 (ofZ w32 z) → mag w < 2 ^ 63 → mag z < 2 ^ 31 → toZ w64 (ofZ w64 w) ≡ z
+wide-back w z e f g = read64 w f ∙ e ∙ read32 z g
+
+pub log-back : (k : ℕ) (z : ℤ) → k ≡ natAbs (toZ w32 (ofZ w32 z)) → mag z < 2 ^ 31 → k ≡ natAbs z
+log-back k z e g = e ∙ ap natAbs (read32 z g)
