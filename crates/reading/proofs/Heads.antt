@@ -14,7 +14,7 @@ use Rattle.model.specs.Sheets.{jobForm, plateForm, cellForm, reachForm, grainFo
 use Rattle.sheet_text.specs.Tests.{no-way}
 use Rattle.sheet_text.specs.Forms.{marks}
 use Rattle.sheet_text.specs.Sheets.{short-sheet}
-use Rattle.reading.specs.declared.Line.{Line}
+use Rattle.scanning.specs.declared.Line.{Line}
 use Rattle.reading.specs.declared.Head.{Head}
 use Rattle.reading.specs.declared.Optional.{Optional}
 use Rattle.reading.specs.Answers.{Reached, OptionalRead, HeadRead, HeadSays, headBy, jobBy}

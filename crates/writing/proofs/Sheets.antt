@@ -25,8 +25,8 @@ use Rattle.sheet_text.specs.Numbers.{Small}
 use Rattle.sheet_text.specs.Forms.{AllSmall, nil-small, cons-small}
 use Rattle.sheet_text.specs.Jobs.{Legal, legal, placed-small, passes}
 use Rattle.sheet_text.specs.Code.{headOf, headText, edgesText, codeText, sheet-as-code, room}
-use Rattle.writing.specs.Puts.{Put}
-use Rattle.writing.proofs.Numbers.{put-then, small-fits, small-again}
+use Rattle.printing.specs.Puts.{Put}
+use Rattle.printing.proofs.Numbers.{put-then, small-fits, small-again}
 
 -- ---- copy
 pub copied : (start out text : List ℕ) (i n : ℕ) → out ≡ paste start 0 text i → i < n → n ≤ length start → n ≤ length text → set out i (getD text i 0) ≡ paste start 0 text (i + 1)

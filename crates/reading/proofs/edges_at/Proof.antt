@@ -9,7 +9,7 @@ use Rattle.reading.proofs.edges_at.Statement.{statement}
 use Rattle.reading.proofs.edges_at.Tie as tie
 use Rattle.reading.proofs.edges_at.Reads as reads
 use Rattle.reading.proofs.edges_at.Lts as lts
-use Rattle.reading.proofs.form_at.Reads as form-at-reads
+use Rattle.scanning.proofs.form_at.Reads as form-at-reads
 use Rattle.reading.proofs.kept.Reads as kept-reads
 use Rattle.reading.proofs.nothing_kept.Reads as nothing-kept-reads
 

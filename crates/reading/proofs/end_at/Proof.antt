@@ -4,13 +4,12 @@ use lib.Dec.{lit≤}
 use denote.Ref.{now}
 use Rattle.sheet_text.specs.Forms.{marks}
 use Rattle.model.specs.Sheets.{endForm}
-use Rattle.reading.proofs.Forms as forms
 use borrow.Author.Needs.{needs}
 use Rattle.reading.proofs.end_at.Statement.{statement}
 use Rattle.reading.proofs.end_at.Tie as tie
 use Rattle.reading.proofs.end_at.Reads as reads
 use Rattle.reading.proofs.end_at.Lts as lts
-use Rattle.reading.proofs.form_at.Reads as form-at-reads
+use Rattle.scanning.proofs.form_at.Reads as form-at-reads
 
 -- src/lib.rt:246:30
 slice-aggregate-form-at : tie.Need-slice-aggregate-form-at

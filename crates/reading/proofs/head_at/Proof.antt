@@ -9,7 +9,7 @@ use Rattle.reading.proofs.head_at.Statement.{statement}
 use Rattle.reading.proofs.head_at.Tie as tie
 use Rattle.reading.proofs.head_at.Reads as reads
 use Rattle.reading.proofs.head_at.Lts as lts
-use Rattle.reading.proofs.form_at.Reads as form-at-reads
+use Rattle.scanning.proofs.form_at.Reads as form-at-reads
 use Rattle.reading.proofs.head_by.Reads as head-by-reads
 use Rattle.reading.proofs.no_head.Reads as no-head-reads
 use Rattle.reading.proofs.optional_at.Reads as optional-at-reads

@@ -5,7 +5,7 @@ use Rattle.reading.proofs.optional_at.Statement.{statement}
 use Rattle.reading.proofs.optional_at.Tie as tie
 use Rattle.reading.proofs.optional_at.Reads as reads
 use Rattle.reading.proofs.optional_at.Lts as lts
-use Rattle.reading.proofs.form_at.Reads as form-at-reads
+use Rattle.scanning.proofs.form_at.Reads as form-at-reads
 
 -- src/lib.rt:248:9
 form-at-requires : tie.Need-form-at-requires

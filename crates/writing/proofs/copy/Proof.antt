@@ -2,7 +2,6 @@ use lib.Dec.{lit≤}
 use borrow.Author.Needs.{needs}
 use native.Mathlib.Omega.{arith}
 use Rattle.writing.proofs.Sheets as lines
-use Rattle.writing.proofs.Numbers as puts
 use mathlib.Core.Path.{_≡_, refl}
 use Prim.Native.Nat.{_-_, _≤_}
 use lib.ListN.{length}

@@ -8,7 +8,7 @@ use Rattle.writing.proofs.put_edges.Statement.{statement}
 use Rattle.writing.proofs.put_edges.Tie as tie
 use Rattle.writing.proofs.put_edges.Reads as reads
 use Rattle.writing.proofs.put_edges.Lts as lts
-use Rattle.writing.proofs.put_form.Reads as put-form-reads
+use Rattle.printing.proofs.put_form.Reads as put-form-reads
 
 abbrev Inv-loop : tie.InvT-loop
 Inv-loop out₀ at count values i₀ e₀ t7 out i e = lines.Going values count out₀ at out i e

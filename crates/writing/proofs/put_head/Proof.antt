@@ -7,7 +7,7 @@ use Rattle.writing.proofs.put_head.Statement.{statement}
 use Rattle.writing.proofs.put_head.Tie as tie
 use Rattle.writing.proofs.put_head.Reads as reads
 use Rattle.writing.proofs.put_head.Lts as lts
-use Rattle.writing.proofs.put_form.Reads as put-form-reads
+use Rattle.printing.proofs.put_form.Reads as put-form-reads
 
 -- src/lib.rt:108:31
 slice-aggregate-put-form : tie.Need-slice-aggregate-put-form

@@ -5,7 +5,7 @@ use Rattle.writing.proofs.put_optional.Statement.{statement}
 use Rattle.writing.proofs.put_optional.Tie as tie
 use Rattle.writing.proofs.put_optional.Reads as reads
 use Rattle.writing.proofs.put_optional.Lts as lts
-use Rattle.writing.proofs.put_form.Reads as put-form-reads
+use Rattle.printing.proofs.put_form.Reads as put-form-reads
 
 -- src/lib.rt:123:9
 returns : tie.Need-returns

@@ -12,7 +12,7 @@ use Rattle.writing.proofs.put_sheet.Reads as reads
 use Rattle.writing.proofs.put_sheet.Lts as lts
 use Rattle.writing.proofs.head_of.Reads as head-of-reads
 use Rattle.writing.proofs.put_edges.Reads as put-edges-reads
-use Rattle.writing.proofs.put_form.Reads as put-form-reads
+use Rattle.printing.proofs.put_form.Reads as put-form-reads
 use Rattle.writing.proofs.put_head.Reads as put-head-reads
 use Rattle.writing.proofs.put_optional.Reads as put-optional-reads
 
