@@ -1,18 +1,18 @@
 -- The needs of the writers of bytes and numbers, and that a text after a text is both. Assumes nothing.
-use mathlib.Core.Path.{_≡_, refl, sym, ap, ap₂, _∙_, subst}
-use mathlib.Core.Bool.{Bool, true, false, cond}
+use mathlib.Core.Path.{_≡_, refl, sym, ap, _∙_, subst}
+use mathlib.Core.Bool.{true, false}
 use mathlib.Core.List.{List, [], _∷_, _++_, append-assoc, append-nil}
-use Prim.Native.Nat.{ℕ, zero, suc, _+_, _-_, _*_, _/_, _%_, _^_, _≤_, _<_}
+use Prim.Native.Nat.{ℕ, _+_, _/_, _%_, _≤_, _<_}
 use native.Mathlib.Numerals.{add-one}
 use native.Mathlib.Omega.{arith}
-use mir.Syntax.{w32, w64}
+use mir.Syntax.{w32}
 use mir.Val.{Fits, SFits, toZ, ofZ}
 use mir.ValLaws.{toZ-ofZ}
-use lib.Dec.{T, ltb, lit<}
+use lib.Dec.{T, ltb}
 use borrow.Author.Tests.{ltb-true}
 use lib.Signed.{ltZ, nonNeg}
 use lib.IntN.{ℤ, pos, negsuc, negℤ, natAbs, _-ℤ_, +ℤ-idl}
-use lib.ListN.{length, getD, take, drop, set, length-append, length-set}
+use lib.ListN.{length, take, drop, set, length-append}
 use lib.Seq.{take-suc-set, drop-set-lt, drop-drop}
 use Rattle.model.specs.Numbers.{decimal, text}
 use Rattle.sheet_text.specs.Numbers.{Small, decimal-one, decimal-more, wider, decimal-long}

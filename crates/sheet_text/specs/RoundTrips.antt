@@ -3,14 +3,13 @@
 use mathlib.Core.Path.{_≡_, refl, sym, ap, ap₂, _∙_, subst}
 use mathlib.Core.Bool.{Bool, true, false, cond}
 use mathlib.Core.Logic.{_⊎_, inl, inr}
-use mathlib.Core.List.{List, [], _∷_, _++_, append-assoc, append-nil}
-use Prim.Native.Nat.{ℕ, zero, suc, _+_, _*_, _-_, _≤_}
+use mathlib.Core.List.{List, [], _∷_, _++_, append-assoc}
+use Prim.Native.Nat.{ℕ, zero, suc, _*_, _-_, _≤_}
 use native.Mathlib.Omega.{arith}
 use lib.Dec.{leb}
 use lib.IntN.{ℤ, pos}
 use lib.ListN.{length, getD, take, drop, replicate}
 use lib.Seq.{take-at}
-use borrow.Author.Tests.{le-leb, leb-true}
 use Rattle.sequences.specs.Tables.{table}
 use Rattle.model.specs.declared.Job.{Job}
 use Rattle.model.specs.declared.Read.{Read}
@@ -20,10 +19,9 @@ use Rattle.model.specs.Forms.{writeForm}
 use Rattle.model.specs.Layouts.{Lines, writeLines, writeAll}
 use Rattle.model.specs.Refusals.{accepted}
 use Rattle.model.specs.Jobs.{judge, zeroJob, counted, ranged, celled}
-use Rattle.model.specs.Sheets.{jobForm, plateForm, cellForm, reachForm, grainForm, edgeForm, endForm, tailLayout, layout, longest, defaultGrain, stated, edgeLines, linesOf, sheetOf, joined, fit, jobOf, Sheet, lines, broken, readSheet}
+use Rattle.model.specs.Sheets.{jobForm, plateForm, cellForm, reachForm, grainForm, edgeForm, endForm, tailLayout, layout, defaultGrain, stated, edgeLines, linesOf, sheetOf, joined, fit, jobOf, Sheet, lines, broken, readSheet}
 use Rattle.model.specs.Entries.{readAnswer, read, writeRefusal, write, writeLeaves}
 use Rattle.model.specs.Promises.{JobKept, SheetKept, WriteRead, Kept, readAs}
-use Rattle.sheet_text.specs.Tests.{no-way}
 use Rattle.sheet_text.specs.Numbers.{Small}
 use Rattle.sheet_text.specs.Forms.{marks, AllSmall, nil-small, cons-small}
 use Rattle.sheet_text.specs.Layouts.{AllLines, FitsAll}
@@ -162,14 +160,22 @@ lines-again (a ∷ b ∷ c ∷ d ∷ g ∷ es ∷ e ∷ []) f l =
       g,
       f₄ .1,
       f₄ .2,
-      (a, b, c, d, es, e, refl,
-      ap₂ _∷_ (line-back jobForm 0 a job-marks (f .0) (f .1) (f .2))
-      (ap₂ _∷_ (line-back plateForm 3 b plate-marks (f₁ .0) (f₁ .1) (f₁ .2))
-      (ap₂ _∷_ (line-back cellForm 1 c cell-marks (f₂ .0) (f₂ .1) (f₂ .2))
-      (ap₂ _∷_ (line-back reachForm 1 d reach-marks (f₃ .0) (f₃ .1) (f₃ .2))
-      (ap (λ u. stated defaultGrain (getD (joined g) 0 defaultGrain) ∷ u)
-      (ap₂ _∷_ (edges-again es (f₅ .2) l)
-      (ap (λ u. u ∷ []) (line-back endForm 0 e end-marks (f₆ .0) (f₆ .1) (f₆ .2))))))))),
+      (
+        a,
+        b,
+        c,
+        d,
+        es,
+        e,
+        refl,
+        ap₂ _∷_ (line-back jobForm 0 a job-marks (f .0) (f .1) (f .2))
+            (ap₂ _∷_ (line-back plateForm 3 b plate-marks (f₁ .0) (f₁ .1) (f₁ .2))
+            (ap₂ _∷_ (line-back cellForm 1 c cell-marks (f₂ .0) (f₂ .1) (f₂ .2))
+            (ap₂ _∷_ (line-back reachForm 1 d reach-marks (f₃ .0) (f₃ .1) (f₃ .2))
+            (ap (λ u. stated defaultGrain (getD (joined g) 0 defaultGrain) ∷ u)
+            (ap₂ _∷_ (edges-again es (f₅ .2) l)
+            (ap (λ u. u ∷ []) (line-back endForm 0 e end-marks (f₆ .0) (f₆ .1) (f₆ .2)))))))),
+      ),
     )
 
 -- what stands before a section and after it

@@ -1,16 +1,17 @@
-use borrow.Author.Needs.{needs}
-use native.Mathlib.Omega.{arith}
-use Rattle.printing.proofs.Numbers as puts
+-- `printing::put_digits` meets its contract. The measure is the number itself, which falls to its tenth. Assumes nothing.
 use Prim.Native.Nat.{ℕ, _<_}
+use native.Mathlib.Omega.{arith}
+use borrow.Author.Needs.{needs}
 use borrow.Fn.Kinds.{In}
 use borrow.Fn.PlainCycle.{Measures, is, falls, and}
+use Rattle.printing.proofs.Numbers as puts
+use Rattle.printing.proofs.+put_digits.{statement}
+use Rattle.printing.proofs.+put_digits.Tie.{close}
 use Rattle.printing.proofs.put_digits.Reads as put-digits
 use Rattle.printing.proofs.put_digits.Kinds as put-digits-kinds
 use Rattle.printing.proofs.+put_digits.Lts-put_digits as put-digits-lts
 use Rattle.printing.proofs.byte_of.Reads as byte-of-reads
 use Rattle.printing.proofs.put_byte.Reads as put-byte-reads
-use Rattle.printing.proofs.+put_digits.{statement}
-use Rattle.printing.proofs.+put_digits.Tie.{close}
 
 abbrev μ-put-digits : Measures 1 put-digits-kinds.ps ℕ
 μ-put-digits κs a = a .1 .1 .0
@@ -23,114 +24,38 @@ abbrev put-digits-below : ℕ → In 1 put-digits-kinds.ps
 put-digits-below t =
     and 1 put-digits-kinds.ps (falls 1 put-digits-kinds.ps _<_ μ-put-digits t) put-digits.Pre
 
--- src/lib.rt:33:13
-put-digits-byte-of-requires : (t : ℕ) → put-digits-lts.Need-byte-of-requires (
-  byte-of-reads.Asked,
-  byte-of-reads.Learnt,
-  put-byte-reads.Asked,
-  put-byte-reads.Learnt,
-  put-digits-below t,
-  put-digits.Post,
-) (put-digits-at t) put-digits.Post
+abbrev callees : ℕ → put-digits-lts.Claims
+callees t = (byte-of-reads.Asked, byte-of-reads.Learnt, put-byte-reads.Asked, put-byte-reads.Learnt, put-digits-below t, put-digits.Post)
+
+put-digits-byte-of-requires : (t : ℕ) → put-digits-lts.Need-byte-of-requires (callees t) (put-digits-at t) put-digits.Post
 put-digits-byte-of-requires t c κs = search needs
 
--- src/lib.rt:34:9
-put-digits-put-byte-requires : (t : ℕ) → put-digits-lts.Need-put-byte-requires (
-  byte-of-reads.Asked,
-  byte-of-reads.Learnt,
-  put-byte-reads.Asked,
-  put-byte-reads.Learnt,
-  put-digits-below t,
-  put-digits.Post,
-) (put-digits-at t) put-digits.Post
+put-digits-put-byte-requires : (t : ℕ) → put-digits-lts.Need-put-byte-requires (callees t) (put-digits-at t) put-digits.Post
 put-digits-put-byte-requires t c κs = search needs
 
--- src/lib.rt:34:9
-put-digits-same-length : (t : ℕ) → put-digits-lts.Need-same-length (
-  byte-of-reads.Asked,
-  byte-of-reads.Learnt,
-  put-byte-reads.Asked,
-  put-byte-reads.Learnt,
-  put-digits-below t,
-  put-digits.Post,
-) (put-digits-at t) put-digits.Post
+put-digits-same-length : (t : ℕ) → put-digits-lts.Need-same-length (callees t) (put-digits-at t) put-digits.Post
 put-digits-same-length t c = search needs
 
--- src/lib.rt:34:9
-put-digits-returns : (t : ℕ) → put-digits-lts.Need-returns (
-  byte-of-reads.Asked,
-  byte-of-reads.Learnt,
-  put-byte-reads.Asked,
-  put-byte-reads.Learnt,
-  put-digits-below t,
-  put-digits.Post,
-) (put-digits-at t) put-digits.Post
+put-digits-returns : (t : ℕ) → put-digits-lts.Need-returns (callees t) (put-digits-at t) put-digits.Post
 put-digits-returns t c = search (needs, puts.digits-small)
 
--- src/lib.rt:36:9
-put-digits-put-digits-requires : (t : ℕ) → put-digits-lts.Need-put-digits-requires (
-  byte-of-reads.Asked,
-  byte-of-reads.Learnt,
-  put-byte-reads.Asked,
-  put-byte-reads.Learnt,
-  put-digits-below t,
-  put-digits.Post,
-) (put-digits-at t) put-digits.Post
+put-digits-put-digits-requires : (t : ℕ) → put-digits-lts.Need-put-digits-requires (callees t) (put-digits-at t) put-digits.Post
 put-digits-put-digits-requires t c κs = omega arith
 
--- src/lib.rt:37:9
-put-digits-byte-of-requires-2 : (t : ℕ) → put-digits-lts.Need-byte-of-requires-2 (
-  byte-of-reads.Asked,
-  byte-of-reads.Learnt,
-  put-byte-reads.Asked,
-  put-byte-reads.Learnt,
-  put-digits-below t,
-  put-digits.Post,
-) (put-digits-at t) put-digits.Post
+put-digits-byte-of-requires-2 : (t : ℕ) → put-digits-lts.Need-byte-of-requires-2 (callees t) (put-digits-at t) put-digits.Post
 put-digits-byte-of-requires-2 t c κs = search needs
 
--- src/lib.rt:38:5
-put-digits-put-byte-requires-2 : (t : ℕ) → put-digits-lts.Need-put-byte-requires-2 (
-  byte-of-reads.Asked,
-  byte-of-reads.Learnt,
-  put-byte-reads.Asked,
-  put-byte-reads.Learnt,
-  put-digits-below t,
-  put-digits.Post,
-) (put-digits-at t) put-digits.Post
+put-digits-put-byte-requires-2 : (t : ℕ) → put-digits-lts.Need-put-byte-requires-2 (callees t) (put-digits-at t) put-digits.Post
 put-digits-put-byte-requires-2 t c κs = search (needs, puts.digits-room)
 
--- src/lib.rt:27:1
-put-digits-same-length-2 : (t : ℕ) → put-digits-lts.Need-same-length-2 (
-  byte-of-reads.Asked,
-  byte-of-reads.Learnt,
-  put-byte-reads.Asked,
-  put-byte-reads.Learnt,
-  put-digits-below t,
-  put-digits.Post,
-) (put-digits-at t) put-digits.Post
+put-digits-same-length-2 : (t : ℕ) → put-digits-lts.Need-same-length-2 (callees t) (put-digits-at t) put-digits.Post
 put-digits-same-length-2 t c = search needs
 
--- src/lib.rt:27:1
-put-digits-returns-2 : (t : ℕ) → put-digits-lts.Need-returns-2 (
-  byte-of-reads.Asked,
-  byte-of-reads.Learnt,
-  put-byte-reads.Asked,
-  put-byte-reads.Learnt,
-  put-digits-below t,
-  put-digits.Post,
-) (put-digits-at t) put-digits.Post
+put-digits-returns-2 : (t : ℕ) → put-digits-lts.Need-returns-2 (callees t) (put-digits-at t) put-digits.Post
 put-digits-returns-2 t c = search (needs, puts.digits-large)
 
 pub +put-digits-spec : {M : Type 1} → statement M
-+put-digits-spec = close μ-put-digits λ t. put-digits-lts.spec (
-  byte-of-reads.Asked,
-  byte-of-reads.Learnt,
-  put-byte-reads.Asked,
-  put-byte-reads.Learnt,
-  put-digits-below t,
-  put-digits.Post,
-)
++put-digits-spec = close μ-put-digits λ t. put-digits-lts.spec (callees t)
     (put-digits-at t)
     put-digits.Post
     (put-digits-byte-of-requires t)

@@ -1,24 +1,18 @@
-use native.Mathlib.Omega.{arith}
-use Rattle.printing.proofs.Numbers as puts
+-- `printing::put_byte` meets its contract. Assumes nothing.
 use borrow.Author.Needs.{needs}
+use Rattle.printing.proofs.Numbers as puts
 use Rattle.printing.proofs.put_byte.Statement.{statement}
 use Rattle.printing.proofs.put_byte.Tie as tie
-use Rattle.printing.proofs.put_byte.Reads as reads
-use Rattle.printing.proofs.put_byte.Lts as lts
 
--- src/lib.rt:15:5
 slice-write-out : tie.Need-slice-write-out
 slice-write-out c = search needs
 
--- src/lib.rt:16:5
 add-result : tie.Need-add-result
 add-result c = search needs
 
--- src/lib.rt:11:1
 same-length : tie.Need-same-length
 same-length c = search needs
 
--- src/lib.rt:11:1
 returns : tie.Need-returns
 returns c = search (needs, puts.put-one)
 

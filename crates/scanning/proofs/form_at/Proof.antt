@@ -1,23 +1,16 @@
-use borrow.Author.Tests.{not-true, not-false}
-use Rattle.scanning.proofs.Forms as forms
-use mathlib.Core.Path.{refl}
-use mathlib.Core.Path.{_≡_}
+-- `scanning::form_at` meets its contract. The invariant: the form is read up to j, its numbers so far are the first values, and the rest has the remaining marks. Assumes nothing.
+use mathlib.Core.Path.{refl, _≡_}
 use mathlib.Core.List.{[]}
-use Prim.Native.Nat.{_+_, _-_, _≤_, _<_}
-use lib.ListN.{length, drop, take}
-use denote.Ref.{now}
+use Prim.Native.Nat.{_+_, _-_, _≤_}
 use native.Mathlib.Omega.{arith}
+use lib.ListN.{length, drop, take}
+use borrow.Author.Tests.{not-true, not-false}
 use borrow.Author.Needs.{needs}
 use Rattle.model.specs.Forms.{readForm}
 use Rattle.sheet_text.specs.Forms.{marks}
-use Rattle.scanning.proofs.Numbers as steps
+use Rattle.scanning.proofs.Forms as forms
 use Rattle.scanning.proofs.form_at.Statement.{statement}
 use Rattle.scanning.proofs.form_at.Tie as tie
-use Rattle.scanning.proofs.form_at.Reads as reads
-use Rattle.scanning.proofs.form_at.Lts as lts
-use Rattle.scanning.proofs.byte_at.Reads as byte-at-reads
-use Rattle.scanning.proofs.number_at.Reads as number-at-reads
-use Rattle.scanning.proofs.wide.Reads as wide-reads
 
 abbrev Inv-loop : tie.InvT-loop
 Inv-loop s at form values₀ count₀ i₀ j₀ values count i j = (readForm form [] (drop at s) ≡ readForm (drop j form) (take count values) (drop i s)) × (count + marks (drop j form) ≡ marks form) × (i ≤ length s) × (j ≤ length form) × (length values ≡ 8)
@@ -25,71 +18,54 @@ Inv-loop s at form values₀ count₀ i₀ j₀ values count i j = (readForm for
 abbrev μ-loop : tie.MeasureT-loop
 μ-loop s at form values₀ count₀ i₀ j₀ values count i j = length form - j
 
--- src/lib.rt:169:5
 loop-holds : tie.Need-loop-holds Inv-loop μ-loop
 loop-holds c = (refl, omega arith, omega arith, omega arith, refl)
 
--- src/lib.rt:170:22
 shared-slice-read-wide : tie.Need-shared-slice-read-wide Inv-loop μ-loop
 shared-slice-read-wide c = omega arith
 
--- src/lib.rt:170:13
 wide-requires : tie.Need-wide-requires Inv-loop μ-loop
 wide-requires c κs = tt
 
--- src/lib.rt:171:9
 add-j : tie.Need-add-j Inv-loop μ-loop
 add-j c = omega arith
 
--- src/lib.rt:173:17
 number-at-requires : tie.Need-number-at-requires Inv-loop μ-loop
 number-at-requires c κs = tt
 
--- src/lib.rt:175:17
 returns : tie.Need-returns Inv-loop μ-loop
 returns c = (search (needs, forms.mark-none, not-true), search needs)
 
--- src/lib.rt:183:13
 mul-values : tie.Need-mul-values Inv-loop μ-loop
 mul-values c = search (needs, forms.room-offset)
 
--- src/lib.rt:183:13
 array-set-from-values : tie.Need-array-set-from-values Inv-loop μ-loop
 array-set-from-values c = search (needs, forms.room)
 
--- src/lib.rt:184:13
 add-count : tie.Need-add-count Inv-loop μ-loop
 add-count c = search (needs, forms.room-next)
 
--- src/lib.rt:169:5
 loop-less : tie.Need-loop-less Inv-loop μ-loop
 loop-less c = omega arith
 
--- src/lib.rt:169:5
 loop-again : tie.Need-loop-again Inv-loop μ-loop
 loop-again c = (search (needs, forms.mark-again, forms.room, not-false), search (needs, forms.left-mark), search needs, search needs, search (needs, forms.length-after))
 
--- src/lib.rt:187:17
 byte-at-requires : tie.Need-byte-at-requires Inv-loop μ-loop
 byte-at-requires c κs = tt
 
--- src/lib.rt:189:17
 returns-2 : tie.Need-returns-2 Inv-loop μ-loop
 returns-2 c = (search (needs, forms.byte-none), search needs)
 
--- src/lib.rt:196:13
 add-i : tie.Need-add-i Inv-loop μ-loop
 add-i c = search (needs, forms.byte-fits)
 
--- src/lib.rt:169:5
 loop-less-2 : tie.Need-loop-less-2 Inv-loop μ-loop
 loop-less-2 c = omega arith
 
--- src/lib.rt:169:5
 loop-again-2 : tie.Need-loop-again-2 Inv-loop μ-loop
 loop-again-2 c = (search (needs, forms.byte-again), search (needs, forms.left-byte), search (needs, forms.byte-in), search needs, search needs)
 
--- src/lib.rt:159:1
 returns-3 : tie.Need-returns-3 Inv-loop μ-loop
 returns-3 c = (search (needs, forms.at-end), search needs)
 
