@@ -1,20 +1,20 @@
 -- The needs of `kept`, `end_at` and `edges_at`: a turn of the last one's loop reads one edge line. Assumes nothing.
-use mathlib.Core.Path.{_≡_, refl, sym, ap, ap₂, _∙_, subst}
+use mathlib.Core.Path.{_≡_, refl, sym, ap, ap₂, _∙_}
 use mathlib.Core.Bool.{Bool, true, false, cond}
-use mathlib.Core.List.{List, [], _∷_, _++_, append-assoc, append-nil}
-use Prim.Native.Nat.{ℕ, zero, suc, _+_, _-_, _*_, _^_, _≤_, _<_}
+use mathlib.Core.List.{List, [], _∷_, _++_}
+use Prim.Native.Nat.{ℕ, zero, suc, _+_, _-_, _*_, _≤_, _<_}
 use native.Mathlib.Numerals.{add-one}
 use native.Mathlib.Omega.{arith}
 use mir.Syntax.{w32, w64}
-use mir.Val.{Fits, SFits, toZ, ofZ}
+use mir.Val.{Fits, toZ, ofZ}
 use mir.ValLaws.{toZ-ofZ}
 use lib.Signed.{mag}
 use lib.Dec.{eqb, ltb}
 use lib.IntN.{ℤ, pos}
-use lib.ListN.{length, getD, take, drop, set, length-append, length-drop, length-take, drop-of-length-le, replicate, length-replicate, replicate-append-replicate}
+use lib.ListN.{length, getD, take, drop, set, length-append, length-drop, drop-of-length-le, replicate, length-replicate, replicate-append-replicate}
 use lib.Seq.{paste, paste-suc, take-at, drop-at, take-all, drop-append-add}
 use borrow.Author.Tests.{eq-eqb, ne-eqb, lt-ltb, le-ltb, ltb-true, ltb-false}
-use Rattle.model.specs.Bytes.{Got, got, none}
+use Rattle.model.specs.Bytes.{got, none}
 use Rattle.model.specs.Forms.{byte, readForm, writeForm}
 use Rattle.model.specs.Layouts.{Lines, readLines}
 use Rattle.model.specs.Sheets.{edgeForm, endForm, longest, joined, fit}
@@ -22,7 +22,6 @@ use Rattle.sheet_text.specs.Tests.{no}
 use Rattle.sheet_text.specs.Forms.{marks, text-form}
 use Rattle.sheet_text.specs.Layouts.{lineThen}
 use Rattle.sheet_text.specs.Places.{joined-snoc, fit-nothing, fit-is, fit-long, fit-length}
-use Rattle.reading.specs.declared.Edges.{Edges}
 use Rattle.reading.specs.Answers.{EdgesRead, keep, closed}
 
 -- ---- kept

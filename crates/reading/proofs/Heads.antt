@@ -1,12 +1,11 @@
 -- The needs of `head_at`: its lines in turn, each found or missing, and the numbers that they hold. Assumes nothing.
-use mathlib.Core.Path.{_≡_, refl, sym, ap, _∙_, subst}
-use mathlib.Core.Bool.{Bool, true, false, not}
+use mathlib.Core.Path.{_≡_, sym, ap, _∙_, subst}
+use mathlib.Core.Bool.{true, false, not}
 use mathlib.Core.List.{List, [], _∷_, _++_, append-nil}
 use Prim.Native.Nat.{ℕ, _≤_, _<_}
-use native.Mathlib.Omega.{arith}
 use lib.Dec.{lit<}
 use lib.IntN.{ℤ, pos}
-use lib.ListN.{length, getD, take, drop}
+use lib.ListN.{length, getD, take}
 use lib.Seq.{getD-take}
 use borrow.Author.Tests.{not-true, not-false}
 use Rattle.model.specs.Layouts.{Section, section, Lines}
@@ -14,7 +13,7 @@ use Rattle.model.specs.Sheets.{jobForm, plateForm, cellForm, reachForm, grainFo
 use Rattle.sheet_text.specs.Tests.{no-way}
 use Rattle.sheet_text.specs.Forms.{marks}
 use Rattle.sheet_text.specs.Sheets.{short-sheet}
-use Rattle.reading.specs.declared.Line.{Line}
+use Rattle.scanning.specs.declared.Line.{Line}
 use Rattle.reading.specs.declared.Head.{Head}
 use Rattle.reading.specs.declared.Optional.{Optional}
 use Rattle.reading.specs.Answers.{Reached, OptionalRead, HeadRead, HeadSays, headBy, jobBy}

@@ -1,6 +1,4 @@
 -- What the proofs of the readers need, a file for each kind of reader.
-pub mod Numbers
-pub mod Forms
 pub mod Sections
 pub mod EdgeLines
 pub mod Heads

@@ -7,13 +7,12 @@ use Prim.Native.Nat.{ℕ, _≤_}
 use native.Mathlib.Omega.{arith}
 use lib.IntN.{ℤ, pos}
 use lib.ListN.{length, getD, take, drop}
-use Rattle.model.specs.Bytes.{Got, got, none, given}
+use Rattle.model.specs.Bytes.{got, none, given}
 use Rattle.model.specs.Forms.{readForm}
-use Rattle.model.specs.Layouts.{Section, section, Line, Lines, readLines, readAll}
+use Rattle.model.specs.Layouts.{Section, section, Lines, readLines, readAll}
 use Rattle.model.specs.Sheets.{joined, broken, ended, readSheet}
 use Rattle.sheet_text.specs.Forms.{marks}
 use Rattle.sheet_text.specs.Layouts.{read-one, read-maybe, read-many}
-use Rattle.reading.specs.declared.Optional.{Optional}
 use Rattle.reading.specs.Answers.{Reached, OptionalRead}
 
 -- ---- a line of the form F at a position: t says whether it is there, vs are its numbers, next is the position after it

@@ -14,7 +14,7 @@ use Rattle.model.specs.Refusals.{accepted}
 use Rattle.model.specs.Jobs.{judge, zeroJob}
 use Rattle.model.specs.Bytes.{Got, got, none, given}
 use Rattle.model.specs.Forms.{readForm}
-use Rattle.model.specs.Layouts.{Section, section, Line, Lines, readAll}
+use Rattle.model.specs.Layouts.{section, Line, Lines, readAll}
 use Rattle.model.specs.Sheets.{edgeForm, endForm, longest, tailLayout, jobOf, Sheet, lines, broken, ended, readSheet}
 use Rattle.model.specs.Entries.{readAnswer, read}
 use Rattle.sheet_text.specs.Tests.{no-way, yes}

@@ -1,48 +1,22 @@
--- What the readers' answers say of the slice that was read: the value, and the bytes from the next position on. Assumes nothing.
+-- What the readers' answers say of the sheet: what was read, and what is still to be read from the next position on. Assumes nothing.
 use mathlib.Core.Bool.{Bool, true, false, cond}
 use mathlib.Core.Path.{_≡_}
 use mathlib.Core.List.{List, [], _∷_, _++_}
-use Prim.Native.Nat.{ℕ, _-_, _*_, _≤_}
+use Prim.Native.Nat.{ℕ, _*_, _≤_}
 use lib.Dec.{ltb}
 use lib.IntN.{ℤ, pos}
-use lib.ListN.{length, getD, drop, take}
+use lib.ListN.{length, getD, drop}
 use lib.Seq.{paste}
 use Rattle.model.specs.declared.Job.{Job}
 use Rattle.model.specs.declared.Read.{Read}
 use Rattle.model.specs.Refusals.{accepted}
 use Rattle.model.specs.Jobs.{judge, zeroJob}
-use Rattle.model.specs.Bytes.{Got, got, none, given, digit}
-use Rattle.model.specs.Forms.{readForm}
-use Rattle.model.specs.Layouts.{Section, section, Line as LineNumbers, Lines, readLines, readAll}
+use Rattle.model.specs.Bytes.{Got, got, none, given}
+use Rattle.model.specs.Layouts.{Section, section, Line, Lines, readLines, readAll}
 use Rattle.model.specs.Sheets.{edgeForm, longest, tailLayout, joined, fit, jobOf, broken, ended, readSheet}
-use Rattle.sheet_text.specs.Forms.{marks}
-use Rattle.reading.specs.declared.Natural.{Natural}
-use Rattle.reading.specs.declared.Number.{Number}
-use Rattle.reading.specs.declared.Line.{Line}
 use Rattle.reading.specs.declared.Edges.{Edges}
 use Rattle.reading.specs.declared.Optional.{Optional}
 use Rattle.reading.specs.declared.Head.{Head}
-
--- ---- bytes
--- the first byte, or 256; the first digit, or 10
-unfoldable pub byteOf : List ℕ → ℕ
-byteOf [] = 256
-byteOf (b ∷ s) = b
-
-unfoldable pub digitOf : List ℕ → ℕ
-digitOf [] = 10
-digitOf (b ∷ s) = cond (digit b) (b - 48) 10
-
--- ---- numbers and lines
-abbrev pub naturalGot : List ℕ → Natural → Got ℕ
-naturalGot s r = cond (r .found) (got (r .value) (drop (r .next) s)) none
-
-abbrev pub numberGot : List ℕ → Number → Got ℤ
-numberGot s r = cond (r .found) (got (r .value) (drop (r .next) s)) none
-
--- the numbers of the form F
-abbrev pub lineGot : List ℕ → List ℕ → Line → Got LineNumbers
-lineGot F s r = cond (r .found) (got (take (marks F) (r .values)) (drop (r .next) s)) none
 
 -- ---- sections: of the sheet s, the sections ss are still to be read, from the position at on, after gs
 abbrev pub Reached : List ℕ → List Section → List Lines → ℕ → Type 0
@@ -68,7 +42,7 @@ unfoldable pub keep : List ℤ → ℕ → List ℤ → List ℤ
 keep vs c ws = cond (ltb c 64) (paste vs (c * 8) ws 8) vs
 
 -- the last line is here, and nothing after it
-unfoldable pub closed : Got LineNumbers → Bool
+unfoldable pub closed : Got Line → Bool
 closed (got us []) = true
 closed (got us (b ∷ s)) = false
 closed none = false

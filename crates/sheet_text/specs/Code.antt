@@ -1,14 +1,14 @@
 -- The sheet of a job as code writes it, line after line with the numbers from a place on, and how long it is at most. Assumes nothing.
-use mathlib.Core.Path.{_≡_, refl, sym, ap, ap₂, _∙_}
+use mathlib.Core.Path.{_≡_, refl, ap, ap₂, _∙_}
 use mathlib.Core.List.{List, [], _∷_, _++_, append-assoc, append-nil}
-use Prim.Native.Nat.{ℕ, zero, suc, _+_, _*_, _≤_}
+use Prim.Native.Nat.{ℕ, zero, suc, _*_, _≤_}
 use native.Mathlib.Omega.{arith}
 use lib.IntN.{ℤ}
 use lib.ListN.{length, drop, length-append, length-drop}
 use Rattle.model.specs.declared.Job.{Job}
 use Rattle.model.specs.Forms.{writeForm}
-use Rattle.model.specs.Layouts.{Line, Lines, writeLines, writeAll}
-use Rattle.model.specs.Sheets.{jobForm, plateForm, cellForm, reachForm, grainForm, edgeForm, endForm, tailLayout, layout, defaultGrain, stated, edgeLines, linesOf, sheetOf}
+use Rattle.model.specs.Layouts.{Line, writeLines, writeAll}
+use Rattle.model.specs.Sheets.{jobForm, plateForm, cellForm, reachForm, grainForm, edgeForm, endForm, tailLayout, layout, defaultGrain, stated, edgeLines, sheetOf}
 use Rattle.sheet_text.specs.Forms.{marks, weight, form-long, form-take}
 use Rattle.sheet_text.specs.Optional.{stated-long}
 

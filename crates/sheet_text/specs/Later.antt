@@ -4,9 +4,9 @@ use mathlib.Core.Path.{_≡_, refl}
 use mathlib.Core.Bool.{true}
 use mathlib.Core.List.{List, [], _∷_, _++_}
 use Prim.Native.Nat.{ℕ}
-use Rattle.model.specs.Bytes.{Got, got, digit, bytes}
+use Rattle.model.specs.Bytes.{got, digit, bytes}
 use Rattle.model.specs.Layouts.{Section, section, Lines, readAll, writeAll}
-use Rattle.model.specs.Sheets.{jobForm, plateForm, cellForm, reachForm, grainForm, edgeForm, endForm, longest, tailLayout}
+use Rattle.model.specs.Sheets.{jobForm, plateForm, cellForm, reachForm, grainForm, edgeForm, endForm, longest}
 use Rattle.sheet_text.specs.Forms.{sound, ends}
 use Rattle.sheet_text.specs.Layouts.{clear, clear-of, apart, FitsAll, all-read}
 

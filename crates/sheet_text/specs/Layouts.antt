@@ -4,18 +4,17 @@
 use mathlib.Core.Path.{_≡_, refl, sym, ap, ap₂, _∙_, subst}
 use mathlib.Core.Bool.{Bool, true, false, cond, _&&_}
 use mathlib.Core.List.{List, [], _∷_, _++_, append-assoc, append-nil}
-use Prim.Native.Nat.{ℕ, zero, suc, _+_, _≤_, _<_}
+use Prim.Native.Nat.{ℕ, zero, suc, _≤_, _<_}
 use native.Mathlib.Omega.{arith}
 use lib.Dec.{eqb, leb}
 use lib.IntN.{ℤ}
-use lib.ListN.{length, take, length-append}
+use lib.ListN.{length}
 use lib.Seq.{take-all}
-use borrow.Author.Tests.{eqb-true, eqb-false, ne-eqb, le-leb, leb-true}
+use borrow.Author.Tests.{eqb-true, le-leb, leb-true}
 use Rattle.model.specs.Bytes.{Got, got, none, given}
-use Rattle.model.specs.Numbers.{text, number}
-use Rattle.model.specs.Forms.{writeForm, byte, readForm}
+use Rattle.model.specs.Forms.{writeForm, readForm}
 use Rattle.model.specs.Layouts.{Section, section, Line, Lines, writeLines, writeAll, readLines, readAll}
-use Rattle.sheet_text.specs.Tests.{no-way, yes, no, both}
+use Rattle.sheet_text.specs.Tests.{no-way, yes, both}
 use Rattle.sheet_text.specs.Forms.{byteThen, piece, put, number-step, byte-same, byte-other, marks, sound, ends, AllSmall, form-text, text-form}
 
 -- ---- two forms part at a byte, after the same bytes and as many numbers

@@ -3,10 +3,9 @@
 use mathlib.Core.Path.{_≡_, refl, sym, ap, _∙_, subst}
 use mathlib.Core.Bool.{Bool, true, false}
 use mathlib.Core.Logic.{_⊎_, inl, inr}
-use mathlib.Core.List.{List, [], _∷_, _++_, append-nil}
+use mathlib.Core.List.{List, [], _∷_, append-nil}
 use Prim.Native.Nat.{ℕ, _≤_}
 use native.Mathlib.Omega.{arith}
-use lib.Dec.{eqb}
 use lib.IntN.{ℤ, pos, negsuc}
 use lib.ListN.{length, getD}
 use borrow.Author.Tests.{eqb-true, eq-eqb}
@@ -15,7 +14,7 @@ use Rattle.model.specs.Layouts.{Lines, writeLines}
 use Rattle.model.specs.Sheets.{same, stated, joined}
 use Rattle.sheet_text.specs.Tests.{no-way, yes, no}
 use Rattle.sheet_text.specs.Numbers.{Small}
-use Rattle.sheet_text.specs.Forms.{marks, weight, AllSmall, nil-small, cons-small, form-long}
+use Rattle.sheet_text.specs.Forms.{marks, weight, nil-small, cons-small, form-long}
 use Rattle.sheet_text.specs.Layouts.{AllLines}
 
 -- ---- equal numbers

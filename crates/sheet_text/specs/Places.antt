@@ -1,16 +1,15 @@
 -- A job's places and its edge lines: eight numbers a line, and zeros past the edges. Assumes nothing.
 use mathlib.Core.Path.{_≡_, refl, sym, ap, ap₂, _∙_}
 use mathlib.Core.List.{List, [], _∷_, _++_, append-assoc, append-nil}
-use Prim.Native.Nat.{ℕ, zero, suc, _+_, _*_, _-_, _≤_, _<_}
+use Prim.Native.Nat.{ℕ, zero, suc, _+_, _*_, _-_, _≤_}
 use native.Mathlib.Omega.{arith}
 use lib.IntN.{ℤ, pos}
 use lib.ListN.{length, getD, take, drop, replicate, length-append, length-drop, length-take}
 use lib.Seq.{take-add, take-at, drop-at, ext-getD}
 use Rattle.sequences.specs.Tables.{table, length-table, getD-table}
-use Rattle.model.specs.Forms.{writeForm}
-use Rattle.model.specs.Layouts.{Line, Lines, writeLines}
+use Rattle.model.specs.Layouts.{Line, Lines}
 use Rattle.model.specs.Sheets.{edgeForm, edgeLines, joined, fit}
-use Rattle.sheet_text.specs.Forms.{marks, weight, AllSmall, form-long, form-take}
+use Rattle.sheet_text.specs.Forms.{marks, AllSmall}
 use Rattle.sheet_text.specs.Layouts.{AllLines}
 use Rattle.sheet_text.specs.Jobs.{drop-small, take-small}
 

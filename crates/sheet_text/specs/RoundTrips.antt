@@ -3,14 +3,13 @@
 use mathlib.Core.Path.{_≡_, refl, sym, ap, ap₂, _∙_, subst}
 use mathlib.Core.Bool.{Bool, true, false, cond}
 use mathlib.Core.Logic.{_⊎_, inl, inr}
-use mathlib.Core.List.{List, [], _∷_, _++_, append-assoc, append-nil}
-use Prim.Native.Nat.{ℕ, zero, suc, _+_, _*_, _-_, _≤_}
+use mathlib.Core.List.{List, [], _∷_, _++_, append-assoc}
+use Prim.Native.Nat.{ℕ, zero, suc, _*_, _-_, _≤_}
 use native.Mathlib.Omega.{arith}
 use lib.Dec.{leb}
 use lib.IntN.{ℤ, pos}
 use lib.ListN.{length, getD, take, drop, replicate}
 use lib.Seq.{take-at}
-use borrow.Author.Tests.{le-leb, leb-true}
 use Rattle.sequences.specs.Tables.{table}
 use Rattle.model.specs.declared.Job.{Job}
 use Rattle.model.specs.declared.Read.{Read}
@@ -20,10 +19,9 @@ use Rattle.model.specs.Forms.{writeForm}
 use Rattle.model.specs.Layouts.{Lines, writeLines, writeAll}
 use Rattle.model.specs.Refusals.{accepted}
 use Rattle.model.specs.Jobs.{judge, zeroJob, counted, ranged, celled}
-use Rattle.model.specs.Sheets.{jobForm, plateForm, cellForm, reachForm, grainForm, edgeForm, endForm, tailLayout, layout, longest, defaultGrain, stated, edgeLines, linesOf, sheetOf, joined, fit, jobOf, Sheet, lines, broken, readSheet}
+use Rattle.model.specs.Sheets.{jobForm, plateForm, cellForm, reachForm, grainForm, edgeForm, endForm, tailLayout, layout, defaultGrain, stated, edgeLines, linesOf, sheetOf, joined, fit, jobOf, Sheet, lines, broken, readSheet}
 use Rattle.model.specs.Entries.{readAnswer, read, writeRefusal, write, writeLeaves}
 use Rattle.model.specs.Promises.{JobKept, SheetKept, WriteRead, Kept, readAs}
-use Rattle.sheet_text.specs.Tests.{no-way}
 use Rattle.sheet_text.specs.Numbers.{Small}
 use Rattle.sheet_text.specs.Forms.{marks, AllSmall, nil-small, cons-small}
 use Rattle.sheet_text.specs.Layouts.{AllLines, FitsAll}

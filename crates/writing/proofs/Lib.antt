@@ -1,5 +1,3 @@
--- What the proofs of the writers need, a file for each kind of writer.
-pub mod Numbers
-pub mod Forms
+-- What the proofs of the writers need: of lines, and of the sheet.
 pub mod Lines
 pub mod Sheets

@@ -1,12 +1,12 @@
 -- The needs of the writers of lines: those before the optional one, the optional one, the edge lines. Assumes nothing.
 use mathlib.Core.Path.{_≡_, refl, sym, ap, _∙_, subst}
 use mathlib.Core.List.{List, [], _∷_, _++_, append-assoc, append-nil}
-use Prim.Native.Nat.{ℕ, zero, suc, _+_, _-_, _*_, _≤_, _<_}
+use Prim.Native.Nat.{ℕ, suc, _+_, _-_, _*_, _≤_, _<_}
 use native.Mathlib.Omega.{arith}
 use mir.Syntax.{w32}
 use mir.Val.{SFits, toZ, ofZ}
 use mir.ValLaws.{toZ-ofZ}
-use lib.IntN.{ℤ, pos}
+use lib.IntN.{ℤ}
 use lib.ListN.{length, drop}
 use lib.Seq.{drop-drop}
 use Rattle.integers.specs.Signed.{same32}
@@ -17,8 +17,8 @@ use Rattle.sheet_text.specs.Numbers.{Small}
 use Rattle.sheet_text.specs.Forms.{weight, AllSmall, nil-small, cons-small, form-long}
 use Rattle.sheet_text.specs.Optional.{stated-out, stated-in}
 use Rattle.sheet_text.specs.Code.{headText, edgesText, edges-long}
-use Rattle.writing.specs.Puts.{Put}
-use Rattle.writing.proofs.Numbers.{put-then, put-none, small-again}
+use Rattle.printing.specs.Puts.{Put}
+use Rattle.printing.proofs.Numbers.{put-then, put-none, small-again}
 
 -- ---- put_head
 pub head-put : (a b c d e : List ℕ) (at i k m n : ℕ) (hs : List ℤ) → Put a b at i (writeForm jobForm hs) → Put b c i k (writeForm plateForm hs) → Put c d k m (writeForm cellForm (drop 3 hs)) → Put d e m n (writeForm reachForm (drop 4 hs)) → Put a e at n (headText hs)

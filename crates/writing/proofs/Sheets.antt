@@ -1,7 +1,7 @@
 -- The needs of `copy`, of `put_sheet` and of `write`. Assumes nothing.
 use mathlib.Core.Path.{_≡_, refl, sym, ap, ap₂, _∙_, subst}
 use mathlib.Core.Bool.{Bool, true, false, cond}
-use mathlib.Core.List.{List, [], _∷_, _++_}
+use mathlib.Core.List.{List, [], _++_}
 use Prim.Native.Nat.{ℕ, zero, suc, _+_, _*_, _≤_, _<_}
 use native.Mathlib.Numerals.{add-one}
 use native.Mathlib.Omega.{arith}
@@ -9,12 +9,11 @@ use mir.Syntax.{w32}
 use mir.Val.{toZ, ofZ}
 use mir.ValLaws.{toZ-ofZ}
 use lib.Dec.{leb}
-use lib.IntN.{ℤ, pos}
+use lib.IntN.{ℤ}
 use lib.ListN.{length, getD, drop, set}
 use lib.Seq.{paste, paste-suc}
 use borrow.Author.Tests.{le-leb, lt-leb}
 use Rattle.model.specs.declared.Job.{Job}
-use Rattle.model.specs.declared.Written.{Written}
 use Rattle.model.specs.Refusals.{accepted}
 use Rattle.model.specs.Jobs.{counted, ranged, celled, judge}
 use Rattle.model.specs.Forms.{writeForm}
@@ -23,10 +22,10 @@ use Rattle.model.specs.Sheets.{grainForm, endForm, defaultGrain, stated, sheetO
 use Rattle.model.specs.Entries.{writeRefusal, write, writeLeaves}
 use Rattle.sheet_text.specs.Numbers.{Small}
 use Rattle.sheet_text.specs.Forms.{AllSmall, nil-small, cons-small}
-use Rattle.sheet_text.specs.Jobs.{Legal, legal, placed-small, passes}
+use Rattle.sheet_text.specs.Jobs.{legal, placed-small, passes}
 use Rattle.sheet_text.specs.Code.{headOf, headText, edgesText, codeText, sheet-as-code, room}
-use Rattle.writing.specs.Puts.{Put}
-use Rattle.writing.proofs.Numbers.{put-then, small-fits, small-again}
+use Rattle.printing.specs.Puts.{Put}
+use Rattle.printing.proofs.Numbers.{put-then, small-fits, small-again}
 
 -- ---- copy
 pub copied : (start out text : List ℕ) (i n : ℕ) → out ≡ paste start 0 text i → i < n → n ≤ length start → n ≤ length text → set out i (getD text i 0) ≡ paste start 0 text (i + 1)

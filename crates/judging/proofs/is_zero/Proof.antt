@@ -1,12 +1,9 @@
+-- `judging::is_zero` meets its contract. Assumes nothing.
 use borrow.Author.Needs.{needs}
 use Rattle.judging.proofs.Verdicts as verdicts
-use Rattle.model.specs.Jobs as law
 use Rattle.judging.proofs.is_zero.Statement.{statement}
 use Rattle.judging.proofs.is_zero.Tie as tie
-use Rattle.judging.proofs.is_zero.Reads as reads
-use Rattle.judging.proofs.is_zero.Lts as lts
 
--- src/lib.rt:20:1
 returns : tie.Need-returns
 returns c = search (needs, verdicts.is-zero)
 

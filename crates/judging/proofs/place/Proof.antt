@@ -1,26 +1,18 @@
-use Rattle.judging.proofs.Verdicts as verdicts
-use Rattle.model.specs.Jobs as law
+-- `judging::place` meets its contract. Assumes nothing.
 use borrow.Author.Needs.{needs}
+use Rattle.judging.proofs.Verdicts as verdicts
 use Rattle.judging.proofs.place.Statement.{statement}
 use Rattle.judging.proofs.place.Tie as tie
-use Rattle.judging.proofs.place.Reads as reads
-use Rattle.judging.proofs.place.Lts as lts
-use Rattle.judging.proofs.coordinate.Reads as coordinate-reads
-use Rattle.judging.proofs.is_zero.Reads as is-zero-reads
 
--- src/lib.rt:29:16
 coordinate-requires : tie.Need-coordinate-requires
 coordinate-requires c κs = search needs
 
--- src/lib.rt:29:39
 is-zero-requires : tie.Need-is-zero-requires
 is-zero-requires c κs = search needs
 
--- src/lib.rt:26:1
 returns : tie.Need-returns
 returns c = search (needs, verdicts.place-in)
 
--- src/lib.rt:26:1
 returns-2 : tie.Need-returns-2
 returns-2 c = search (needs, verdicts.place-out)
 

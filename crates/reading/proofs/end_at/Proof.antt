@@ -1,32 +1,23 @@
-use Rattle.reading.proofs.EdgeLines as edges
-use mathlib.Core.Path.{refl}
+-- `reading::end_at` meets its contract. Assumes nothing.
 use lib.Dec.{lit≤}
-use denote.Ref.{now}
+use borrow.Author.Needs.{needs}
 use Rattle.sheet_text.specs.Forms.{marks}
 use Rattle.model.specs.Sheets.{endForm}
-use Rattle.reading.proofs.Forms as forms
-use borrow.Author.Needs.{needs}
+use Rattle.reading.proofs.EdgeLines as edges
 use Rattle.reading.proofs.end_at.Statement.{statement}
 use Rattle.reading.proofs.end_at.Tie as tie
-use Rattle.reading.proofs.end_at.Reads as reads
-use Rattle.reading.proofs.end_at.Lts as lts
-use Rattle.reading.proofs.form_at.Reads as form-at-reads
 
--- src/lib.rt:246:30
 slice-aggregate-form-at : tie.Need-slice-aggregate-form-at
 slice-aggregate-form-at c = search needs
 
--- src/lib.rt:246:9
 form-at-requires : tie.Need-form-at-requires
 unfolding marks
 form-at-requires c κs = (search needs, lit≤ tt)
 
--- src/lib.rt:248:9
 returns : tie.Need-returns
 unfolding endForm
 returns c = search (needs, edges.end-found)
 
--- src/lib.rt:242:1
 returns-2 : tie.Need-returns-2
 unfolding endForm
 returns-2 c = search (needs, edges.end-none)

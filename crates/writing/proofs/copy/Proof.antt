@@ -1,16 +1,13 @@
-use lib.Dec.{lit≤}
-use borrow.Author.Needs.{needs}
-use native.Mathlib.Omega.{arith}
-use Rattle.writing.proofs.Sheets as lines
-use Rattle.writing.proofs.Numbers as puts
+-- `writing::copy` meets its contract. The invariant: the first i bytes are copied. Assumes nothing.
 use mathlib.Core.Path.{_≡_, refl}
 use Prim.Native.Nat.{_-_, _≤_}
+use native.Mathlib.Omega.{arith}
 use lib.ListN.{length}
 use lib.Seq.{paste, paste-zero}
+use borrow.Author.Needs.{needs}
+use Rattle.writing.proofs.Sheets as lines
 use Rattle.writing.proofs.copy.Statement.{statement}
 use Rattle.writing.proofs.copy.Tie as tie
-use Rattle.writing.proofs.copy.Reads as reads
-use Rattle.writing.proofs.copy.Lts as lts
 
 abbrev Inv-loop : tie.InvT-loop
 Inv-loop out₀ text n i₀ out i = (out ≡ paste out₀ 0 text i) × (i ≤ n) × (length out ≡ length out₀)
@@ -18,35 +15,27 @@ Inv-loop out₀ text n i₀ out i = (out ≡ paste out₀ 0 text i) × (i ≤ n)
 abbrev μ-loop : tie.MeasureT-loop
 μ-loop out₀ text n i₀ out i = n - i
 
--- src/lib.rt:175:5
 loop-holds : tie.Need-loop-holds Inv-loop μ-loop
 loop-holds c = (paste-zero (c .args .out .now) 0 (c .args .text .now), omega arith, refl)
 
--- src/lib.rt:176:18
 shared-slice-read-out : tie.Need-shared-slice-read-out Inv-loop μ-loop
 shared-slice-read-out c = omega arith
 
--- src/lib.rt:176:9
 slice-write-out : tie.Need-slice-write-out Inv-loop μ-loop
 slice-write-out c = omega arith
 
--- src/lib.rt:177:9
 add-i : tie.Need-add-i Inv-loop μ-loop
 add-i c = omega arith
 
--- src/lib.rt:175:5
 loop-less : tie.Need-loop-less Inv-loop μ-loop
 loop-less c = omega arith
 
--- src/lib.rt:175:5
 loop-again : tie.Need-loop-again Inv-loop μ-loop
 loop-again c = (search (needs, lines.copied), omega arith, search needs)
 
--- src/lib.rt:170:1
 same-length : tie.Need-same-length Inv-loop μ-loop
 same-length c = search needs
 
--- src/lib.rt:170:1
 returns : tie.Need-returns Inv-loop μ-loop
 returns c = search (needs, lines.all-copied)
 

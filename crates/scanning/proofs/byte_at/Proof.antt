@@ -1,0 +1,20 @@
+-- `scanning::byte_at` meets its contract. Assumes nothing.
+use borrow.Author.Needs.{needs}
+use Rattle.scanning.proofs.Numbers as steps
+use Rattle.scanning.proofs.byte_at.Statement.{statement}
+use Rattle.scanning.proofs.byte_at.Tie as tie
+
+shared-slice-read-wide : tie.Need-shared-slice-read-wide
+shared-slice-read-wide c = search needs
+
+wide-requires : tie.Need-wide-requires
+wide-requires c κs = search needs
+
+returns : tie.Need-returns
+returns c = search (needs, steps.byte-here)
+
+returns-2 : tie.Need-returns-2
+returns-2 c = search (needs, steps.byte-past)
+
+pub byte-at-spec : {M : Type 1} → statement M
+byte-at-spec = tie.close (tie.spec shared-slice-read-wide wide-requires returns returns-2)

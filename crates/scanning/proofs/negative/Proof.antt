@@ -1,0 +1,17 @@
+-- `scanning::negative` meets its contract. Assumes nothing.
+use borrow.Author.Needs.{needs}
+use Rattle.scanning.proofs.Numbers as steps
+use Rattle.scanning.proofs.negative.Statement.{statement}
+use Rattle.scanning.proofs.negative.Tie as tie
+
+cast-result : tie.Need-cast-result
+cast-result c = search needs
+
+sub-result : tie.Need-sub-result
+sub-result c = search (needs, steps.minus-fits)
+
+returns : tie.Need-returns
+returns c = search (needs, steps.minus-value)
+
+pub negative-spec : {M : Type 1} → statement M
+negative-spec = tie.close (tie.spec cast-result sub-result returns)

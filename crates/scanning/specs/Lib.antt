@@ -1,0 +1,2 @@
+-- What the readers' answers say.
+pub mod Answers
