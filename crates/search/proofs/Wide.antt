@@ -1,20 +1,20 @@
 -- Where r² ≤ 2 s² no node is inside. Assumes nothing.
 use mathlib.Core.Path.{_≡_, refl, sym, subst}
-use mathlib.Core.Bool.{Bool, true, false, not}
-use Prim.Native.Nat.{ℕ, _≤_}
+use mathlib.Core.Bool.{Bool, true, false}
+use Prim.Native.Nat.{_≤_}
 use native.Mathlib.Omega.{arith}
 use lib.Dec.{T}
 use lib.IntN.{ℤ, pos, negsuc, _+ℤ_, _-ℤ_, _*ℤ_}
-use lib.Signed.{ltZ, leZ, ltZ-yes, leZ-yes, nonNeg, clashℤ}
-use Rattle.integers.specs.RingSolver.{name₂, name₄, name₅, reify}
-use Rattle.integers.specs.Order.{_≼_, _≺_, num, _⊞_, _⊠_}
+use lib.Signed.{leZ, ltZ-yes, leZ-yes, nonNeg, clashℤ}
+use Rattle.integers.specs.RingSolver.{name₄, reify}
+use Rattle.integers.specs.Order.{_≼_, num, _⊞_, _⊠_}
 use Rattle.integers.specs.Omega.{zarith}
 use Rattle.integers.specs.Inequalities.{from, _&_}
 use Rattle.integers.specs.Absolute.{absℤ, abs-nonneg}
-use Rattle.model.specs.Strips.{Side, Strip}
-use Rattle.model.specs.Explore.{Cell, Answer, inside, away, maybe, farthest, isInside, isAway₁, isAway₂, judge, verdict}
+use Rattle.model.specs.Strips.{Side}
+use Rattle.model.specs.Explore.{Answer, inside, away, maybe, farthest, isInside, judge, verdict}
 use Rattle.strip_tests.specs.PlainTests.{code}
-use Rattle.ranges.specs.Sizes.{SideSized, Sized}
+use Rattle.ranges.specs.Sizes.{SideSized}
 use Rattle.search.specs.Held.{cellAt, Enough}
 
 nonneg : (z : ℤ) → T (nonNeg z) → pos 0 ≼ z

@@ -21,7 +21,7 @@ use Rattle.model.specs.Store.{forest}
 use Rattle.model.specs.Explore.{verdict, exploreAll}
 use Rattle.model.specs.Plates.{Verdict, clear, within, doubtful, mixed, letter, drawn, columns, mapped, mapOf}
 use Rattle.model.specs.Exact.{Points, Outline, Along, CellPoint, Clear, Inside, Exact, R-E, R+E, NoCloser, SomeNear, Demand3}
-use Rattle.model.specs.Promises.{MapHolds, DemandThree, ExactUnique}
+use Rattle.model.specs.Promises.{DemandThree, ExactUnique}
 use Rattle.sequences.specs.RowMajor.{getD-rowMajor}
 use Rattle.enclosure.specs.Covers.{CoversAll}
 use Rattle.enclosure.specs.Edges.{trees-cover}

@@ -1,13 +1,12 @@
 -- `drawing::draw` meets its contract: a settled block is filled, and any other is drawn in quarters. Assumes nothing.
-use mathlib.Core.Path.{_≡_, refl, sym, _∙_}
+use mathlib.Core.Path.{_∙_}
 use mathlib.Core.List.{List}
-use Prim.Native.Nat.{ℕ, _+_, _*_, _/_, _≤_, _<_}
+use Prim.Native.Nat.{ℕ, _+_, _/_, _≤_, _<_}
 use native.Mathlib.Omega.{arith}
-use lib.ListN.{length, take}
+use lib.ListN.{take}
 use Rattle.model.specs.Trees.{Tree}
 use Rattle.inheritance.specs.Edges.{opened, opened-inherits}
 use Rattle.open_edges.specs.Starts.{Starts}
-use Rattle.drawing.specs.declared.Frame.{Frame}
 use Rattle.drawing.specs.Letters.{asked, ownLetter}
 use Rattle.drawing.specs.Ready.{Ready}
 use Rattle.drawing.proofs.Settles.{letter-open}
