@@ -1,4 +1,4 @@
--- The settled that quartering draws is the smallest cell's own. Assumes nothing.
+-- The verdict that quartering draws is the smallest cell's own. Assumes nothing.
 use mathlib.Core.Path.{_≡_, refl, sym, _∙_, ap, ap₂}
 use mathlib.Core.Bool.{Bool, true, false, not}
 use mathlib.Core.List.{List}

@@ -21,7 +21,7 @@ nonneg : (z : ℤ) → T (nonNeg z) → pos 0 ≼ z
 nonneg (pos n) t = num n
 nonneg (negsuc n) t = absurd t
 
--- a farthest is at least the half side
+-- the farthest is at least the half side
 far : (w p b s : ℤ) → pos 0 ≼ w → pos 0 ≼ p → pos 0 ≼ b → pos 0 ≼ s → s *ℤ s ≼ (w +ℤ p +ℤ (b +ℤ s)) *ℤ (w +ℤ p +ℤ (b +ℤ s))
 far w p b s hw hp hb hs = from ((hw ⊞ hp ⊞ hb) ⊠ (hw ⊞ hp ⊞ hb) & (hw ⊞ hp ⊞ hb) ⊠ hs) (name₄ w p b s λ σ x y z u. simp (x, y, z, u, reify, σ) (omega zarith))
 

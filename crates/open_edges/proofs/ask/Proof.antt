@@ -1,3 +1,4 @@
+-- `open_edges::ask` meets its contract: the tree's part is found by its count. Assumes nothing.
 use native.Mathlib.Omega.{arith}
 use mir.Facts.{toZ-ofZ}
 use mir.Syntax.{w64}

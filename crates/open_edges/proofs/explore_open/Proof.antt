@@ -1,3 +1,4 @@
+-- `open_edges::explore_open` meets its contract: k trees on, none is inside and those not away are kept. Assumes nothing.
 use mathlib.Core.List.{List}
 use lib.Seq.{length-take-le, getD-take}
 use Rattle.model.specs.Strips.{Strip}

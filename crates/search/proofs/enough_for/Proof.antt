@@ -1,3 +1,4 @@
+-- `search::enough_for` meets its contract. Assumes nothing.
 use Rattle.integers.specs.Signed.{Made, arg, lit, times, back}
 use Rattle.search.proofs.Wide.{too-wide, any}
 use Rattle.search.proofs.enough_for.Statement.{statement}

@@ -1,3 +1,4 @@
+-- `search::join` meets its contract. Assumes nothing.
 use borrow.Author.Tests.{lt-ltb, le-ltb}
 use Rattle.search.proofs.join.Statement.{statement}
 use Rattle.search.proofs.join.Tie as tie

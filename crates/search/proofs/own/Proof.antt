@@ -1,3 +1,4 @@
+-- `search::own` meets its contract: z0 to z5 are the numbers of the first node. Assumes nothing.
 use Rattle.integers.specs.Signed.{Made, called, arg, plus, minus, back}
 use lib.IntN.{pos}
 use mathlib.Core.Path.{_∙_, ap}

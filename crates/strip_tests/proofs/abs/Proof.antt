@@ -1,3 +1,4 @@
+-- `strip_tests::abs` meets its contract. Assumes nothing.
 use Rattle.integers.specs.Signed.{Made, arg, lit, minus, back, test-lt, neg-abs, pos-abs}
 use mathlib.Core.Path.{_∙_}
 use Rattle.integers.specs.Absolute.{absℤ}

@@ -1,3 +1,4 @@
+-- `strip_tests::apart` meets its contract. Assumes nothing.
 use Rattle.integers.specs.Signed.{Made, sized, arg, plus, times, back}
 use Rattle.strip_tests.proofs.Calls.{excess-of}
 use Rattle.strip_tests.specs.PlainTests.{excessBy}

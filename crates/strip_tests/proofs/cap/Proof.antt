@@ -1,3 +1,4 @@
+-- `strip_tests::cap` meets its contract. Assumes nothing.
 use mir.Facts.{toZ-ofZ}
 use Rattle.strip_tests.proofs.cap.Statement.{statement}
 use Rattle.strip_tests.proofs.cap.Tie as tie

@@ -1,3 +1,4 @@
+-- `strip_tests::excess` meets its contract. Assumes nothing.
 use Rattle.integers.specs.Signed.{Made, arg, minus, back, test-lt}
 use Rattle.strip_tests.proofs.excess.Statement.{statement}
 use Rattle.strip_tests.proofs.excess.Tie as tie

@@ -1,3 +1,4 @@
+-- `strip_tests::inside` meets its contract. Assumes nothing.
 use Rattle.integers.specs.Signed.{Made, arg, plus, times, back}
 use Rattle.strip_tests.proofs.inside.Statement.{statement}
 use Rattle.strip_tests.proofs.inside.Tie as tie

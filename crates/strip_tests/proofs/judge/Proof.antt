@@ -1,3 +1,4 @@
+-- `strip_tests::judge` meets its contract. Assumes nothing.
 use Rattle.integers.specs.Signed.{Made, sized, arg, plus, back}
 use Rattle.strip_tests.proofs.Calls.{span-of, abs-of}
 use lib.IntN.{ℤ, _+ℤ_}

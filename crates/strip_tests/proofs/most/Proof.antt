@@ -1,3 +1,4 @@
+-- `strip_tests::most` meets its contract. Assumes nothing.
 use mir.Facts.{toZ-ofZ}
 use Rattle.strip_tests.proofs.most.Statement.{statement}
 use Rattle.strip_tests.proofs.most.Tie as tie

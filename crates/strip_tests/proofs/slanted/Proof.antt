@@ -1,3 +1,4 @@
+-- `strip_tests::slanted` meets its contract. Assumes nothing.
 use lib.Dec.{T}
 use lib.Signed.{nonNeg}
 use Rattle.model.specs.Explore.{squares}
