@@ -44,7 +44,7 @@ draw-fill-square-requires : (t : ℕ) → draw-lts.Need-fill-square-requires (ca
 draw-fill-square-requires t c κs =
     let s = c .before .before .before .before .before .before in
     let p = s .pre .1 .0 in
-    (p .frame-sized .n-size, p .columns-fit, p .rows-fit, s .pre .1 .1)
+    (p .frame-sized .n-size, omega (arith, p .columns-fit), omega (arith, p .rows-fit), s .pre .1 .1)
 
 draw-same-length : (t : ℕ) → draw-lts.Need-same-length (callees t) (draw-at t) draw.Post
 draw-same-length t c = c .before .before .fill-square .kept .0
