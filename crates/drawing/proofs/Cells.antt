@@ -1,15 +1,14 @@
 -- The numbers of a block: where its middle is, half its side, and that no step leaves 64 bits. Assumes nothing.
-use mathlib.Core.Path.{_≡_, refl, sym, ap, ap₂, _∙_, subst}
+use mathlib.Core.Path.{_≡_, sym, ap, ap₂, _∙_, subst}
 use Prim.Native.Nat.{ℕ, _+_, _*_, _≤_, _<_, _^_}
 use native.Mathlib.Nat.{le-trans, mul-le-mul-right}
 use native.Mathlib.Omega.{arith}
 use lib.Dec.{T, ltb}
-use lib.IntN.{ℤ, pos, negsuc, natAbs, _+ℤ_, _*ℤ_}
-use lib.Signed.{nonNeg, yes-nonNeg}
+use lib.IntN.{ℤ, pos, negsuc, natAbs, _*ℤ_}
+use lib.Signed.{nonNeg}
 use mir.Syntax.{w64}
 use mir.Val.{SFits, toZ, ofZ}
 use mir.Facts.{toZ-ofZ, toZ-pos}
-use Rattle.integers.specs.Order.{_≼_, num, _⊠_}
 use Rattle.integers.specs.Signed.{Made, called, held, back, natAbs-add, natAbs-mul}
 use Rattle.inheritance.specs.Blocks.{middle}
 use Rattle.search.specs.Held.{CellSized}

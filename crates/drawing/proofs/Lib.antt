@@ -1,3 +1,4 @@
+-- Laws that the proofs of drawing share.
 pub mod Cells
 pub mod Settles
 pub mod Quartered

@@ -1,11 +1,11 @@
 -- From a job's numbers to its frame, and from the cells drawn to the job's map. Assumes nothing.
 use mathlib.Core.Path.{_≡_, refl, sym, ap, ap₂, _∙_, subst}
-use mathlib.Core.List.{List, [], _∷_, _++_}
+use mathlib.Core.List.{List, _++_}
 use Prim.Native.Nat.{ℕ, zero, suc, _+_, _-_, _*_, _^_, _≤_, _<_}
 use native.Mathlib.Nat.{mul-comm}
 use native.Mathlib.Omega.{arith}
 use lib.Dec.{T, leb→le}
-use lib.Pow.{pow-mono, pow-pos}
+use lib.Pow.{pow-mono}
 use lib.IntN.{ℤ, pos, negsuc, natAbs, _+ℤ_, _-ℤ_, _*ℤ_}
 use lib.Signed.{nonNeg}
 use lib.ListN.{length, getD, take, drop, length-drop, take-append-drop}
@@ -18,24 +18,23 @@ use Rattle.integers.specs.Signed.{natAbs-mul}
 use Rattle.sequences.specs.RowMajor.{rowMajor, length-rowMajor, is-rowMajor}
 use Rattle.model.specs.declared.Job.{Job}
 use Rattle.model.specs.Jobs.{outline, edgesFrom, plateLog, cellLog, judge}
-use Rattle.model.specs.Trees.{Tree, trees}
-use Rattle.model.specs.Store.{forest, flattenAll}
+use Rattle.model.specs.Trees.{trees}
+use Rattle.model.specs.Store.{forest}
 use Rattle.model.specs.Explore.{Cell, verdict, exploreAll}
 use Rattle.model.specs.Plates.{doubtful, letter, settled, columns, mapped, mapOf}
 use Rattle.model.specs.Entries.{over as written}
-use Rattle.verdicts.specs.Legal.{Between, Coordinate, Legal, legal}
+use Rattle.verdicts.specs.Legal.{Between, Coordinate, legal}
 use Rattle.verdicts.specs.Quartering.{plate-side}
 use Rattle.verdicts.specs.DemandThree.{forest-covers}
 use Rattle.inheritance.specs.Edges.{EachInherits, covered-inherits}
 use Rattle.inheritance.specs.Drawn.{drawn-is}
 use Rattle.inheritance.specs.Blocks.{smallest-is}
-use Rattle.strip_tests.specs.Limits.{ReachSized}
 use Rattle.open_edges.specs.Starts.{Starts, Holds}
 use Rattle.filling.specs.Squares.{In, over, Drawn}
 use Rattle.filling.specs.Quarters.{over-in}
 use Rattle.drawing.specs.declared.Frame.{Frame}
-use Rattle.drawing.specs.Letters.{frameOf, asked, ownLetter}
-use Rattle.drawing.specs.Ready.{FrameSized, PowerOfTwo, Ready, NumbersSized, MapReady}
+use Rattle.drawing.specs.Letters.{frameOf, ownLetter}
+use Rattle.drawing.specs.Ready.{FrameSized, Ready, NumbersSized, MapReady}
 use Rattle.drawing.proofs.Cells.{nonneg-times}
 
 -- ---- ranges as sizes

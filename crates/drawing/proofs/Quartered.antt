@@ -1,5 +1,5 @@
 -- A block drawn in quarters: what a quarter needs, and that four of them make the block. Assumes nothing.
-use mathlib.Core.Path.{_≡_, refl, sym, ap, _∙_, subst}
+use mathlib.Core.Path.{_≡_, sym, ap, _∙_}
 use mathlib.Core.List.{List}
 use Prim.Native.Nat.{ℕ, zero, suc, _+_, _*_, _/_, _^_, _≤_, _<_}
 use native.Mathlib.Nat.{pow-succ'}
@@ -8,12 +8,12 @@ use lib.Pow.{pow-pos}
 use lib.IntN.{ℤ}
 use lib.ListN.{length, getD, take}
 use Rattle.model.specs.Trees.{Tree}
-use Rattle.inheritance.specs.Edges.{EachInherits, opened, opened-inherits}
-use Rattle.open_edges.specs.Starts.{Starts, Forest}
+use Rattle.inheritance.specs.Edges.{opened}
+use Rattle.open_edges.specs.Starts.{Starts}
 use Rattle.filling.specs.Squares.{In, over, Drawn}
 use Rattle.filling.specs.Quarters.{quarters, over-agree}
 use Rattle.drawing.specs.declared.Frame.{Frame}
-use Rattle.drawing.specs.Letters.{asked, ownLetter}
+use Rattle.drawing.specs.Letters.{asked}
 use Rattle.drawing.specs.Ready.{PowerOfTwo, Ready}
 
 -- ---- half of a side

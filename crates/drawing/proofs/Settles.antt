@@ -1,5 +1,5 @@
 -- The letter of a block that its open trees settle is the letter of each of its cells. Assumes nothing.
-use mathlib.Core.Path.{_≡_, refl, sym, ap, _∙_, subst}
+use mathlib.Core.Path.{_≡_, refl, sym, ap, _∙_}
 use mathlib.Core.List.{List}
 use Prim.Native.Nat.{ℕ, _+_, _≤_, _<_}
 use native.Mathlib.Omega.{arith}
@@ -8,7 +8,7 @@ use lib.IntN.{ℤ, pos, negsuc}
 use lib.Signed.{nonNeg}
 use Rattle.integers.specs.Order.{_≼_, num}
 use Rattle.model.specs.Trees.{Tree}
-use Rattle.model.specs.Explore.{Cell, Answer, inside, away, maybe, exploreAll}
+use Rattle.model.specs.Explore.{Answer, inside, away, maybe, exploreAll}
 use Rattle.model.specs.Plates.{doubtful, letter, settled}
 use Rattle.inheritance.specs.Parts.{PartOf}
 use Rattle.inheritance.specs.Edges.{EachInherits, opened, leave-out, part-settled}

@@ -1,12 +1,12 @@
 -- Blocks of smallest cells, as drawing counts them: w by w smallest cells from column c and row r, of half side q, from the corner (X, Y) in fine units. Assumes nothing.
-use mathlib.Core.Path.{_≡_, refl, sym, _∙_, ap, ap₂}
-use Prim.Native.Nat.{ℕ, suc, _+_, _*_, _^_, _≤_, _<_}
+use mathlib.Core.Path.{_≡_}
+use Prim.Native.Nat.{ℕ, _+_, _*_, _^_, _≤_, _<_}
 use native.Mathlib.Omega.{arith}
-use lib.IntN.{ℤ, pos, negℤ, _+ℤ_, _-ℤ_, _*ℤ_}
-use Rattle.integers.specs.RingSolver.{name₃, name₄, name₅, name₆, reify, close, ok}
+use lib.IntN.{ℤ, pos, _+ℤ_, _-ℤ_, _*ℤ_}
+use Rattle.integers.specs.RingSolver.{name₃, name₄, name₅, reify, close, ok}
 use Rattle.integers.specs.Order.{_≼_, pos-≼, _⊠_, gap}
 use Rattle.integers.specs.Omega.{zarith}
-use Rattle.integers.specs.Inequalities.{from, _&_}
+use Rattle.integers.specs.Inequalities.{from}
 use Rattle.integers.specs.Absolute.{absℤ, abs-≼}
 use Rattle.model.specs.Explore.{Cell}
 use Rattle.inheritance.specs.Parts.{PartOf}

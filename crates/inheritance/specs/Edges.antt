@@ -39,16 +39,6 @@ unfoldable pub opened : (Strip → Answer) → List Tree → List Tree
 opened v [] = []
 opened v (t ∷ ts) = let rest : List Tree = opened v ts in keep (explore v t) t rest
 
-keep-each : (r : ℤ) (a : Answer) (t : Tree) (ts : List Tree) → Inherits r t → EachInherits r ts → EachInherits r (keep a t ts)
-keep-each r inside t ts h k = (h, k)
-keep-each r away t ts h k = k
-keep-each r maybe t ts h k = (h, k)
-
-pub opened-inherits : (r : ℤ) (v : Strip → Answer) (ts : List Tree) → EachInherits r ts → EachInherits r (opened v ts)
-unfolding opened
-opened-inherits r v [] k = tt
-opened-inherits r v (t ∷ ts) k = keep-each r (explore v t) t (opened v ts) (k .0) (opened-inherits r v ts (k .1))
-
 module _ (r : ℤ) (c d : Cell) (part : PartOf d c) where
   pub all-inside-part : (ts : List Tree) → EachInherits r ts → exploreAll (verdict r c) ts ≡ inside → exploreAll (verdict r d) ts ≡ inside
   unfolding exploreAll
@@ -82,3 +72,14 @@ module _ (r : ℤ) (c d : Cell) (part : PartOf d c) where
   part-settled ts k inside e x l = ap (λ a. settled a doubtful) (sym (all-inside-part ts k e))
   part-settled ts k away e x l = ap (λ a. settled a doubtful) (sym (all-away-part ts k e))
   part-settled ts k maybe e x l = l
+
+-- the trees that are still open inherit too
+keep-each : (r : ℤ) (a : Answer) (t : Tree) (ts : List Tree) → Inherits r t → EachInherits r ts → EachInherits r (keep a t ts)
+keep-each r inside t ts h k = (h, k)
+keep-each r away t ts h k = k
+keep-each r maybe t ts h k = (h, k)
+
+pub opened-inherits : (r : ℤ) (v : Strip → Answer) (ts : List Tree) → EachInherits r ts → EachInherits r (opened v ts)
+unfolding opened
+opened-inherits r v [] k = tt
+opened-inherits r v (t ∷ ts) k = keep-each r (explore v t) t (opened v ts) (k .0) (opened-inherits r v ts (k .1))

@@ -1,13 +1,11 @@
 -- A cell that is a part of another: what a test says of the whole it says of the part. Assumes nothing.
-use mathlib.Core.Path.{_≡_, refl, sym, _∙_, subst}
+use mathlib.Core.Path.{_≡_, subst}
 use mathlib.Core.Bool.{Bool, true, false}
-use lib.Dec.{T}
 use lib.IntN.{ℤ, pos, negsuc, negℤ, _+ℤ_, _-ℤ_, _*ℤ_}
-use lib.Signed.{ltZ, ltZ-yes}
-use Rattle.integers.specs.RingSolver.{name₂, name₃, name₄, name₅, name₆, name₈, name₁₀, name₁₂, reify}
-use Rattle.integers.specs.Order.{_≼_, _≺_, num, _⊞_, _⊠_, gap}
+use Rattle.integers.specs.RingSolver.{name₂, name₃, name₅, name₆, name₈, name₁₀, name₁₂, reify}
+use Rattle.integers.specs.Order.{_≼_, _≺_, _⊞_, _⊠_, gap}
 use Rattle.integers.specs.Omega.{zarith}
-use Rattle.integers.specs.Inequalities.{from, _&_, weak, ≼-trans, ≼-≺-trans, ≺-≼-trans, ≼-*, ≼-+}
+use Rattle.integers.specs.Inequalities.{from, _&_, ≼-trans, ≼-≺-trans, ≺-≼-trans, ≼-*, ≼-+}
 use Rattle.integers.specs.Absolute.{absℤ, abs-nonneg, abs-≼, ≼-abs, neg≼-abs}
 use Rattle.model.specs.Strips.{Side, Strip}
 use Rattle.model.specs.Explore.{Cell, squares, farthest, atLeast0, room, closest, isInside, isAway₁, isAway₂, lengthOf}

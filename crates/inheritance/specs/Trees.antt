@@ -1,23 +1,21 @@
 -- A part of a cell inherits its answers, for a strip that has a point, for a tree that covers a set, for a list of such trees. Assumes nothing.
-use mathlib.Core.Path.{_≡_, refl, sym, _∙_, ap, subst}
+use mathlib.Core.Path.{_≡_, refl}
 use mathlib.Core.Bool.{Bool, true, false, _||_}
-use mathlib.Core.List.{List, [], _∷_}
-use mathlib.Core.Logic.{_⊎_, inl, inr, ⊎-elim}
-use Prim.Native.Nat.{ℕ}
-use lib.IntN.{ℤ, pos, negℤ, _+ℤ_, _-ℤ_, _*ℤ_}
+use mathlib.Core.Logic.{⊎-elim}
+use lib.IntN.{ℤ, pos, _-ℤ_, _*ℤ_}
 use lib.Signed.{clashℤ}
-use Rattle.integers.specs.RingSolver.{name₂, name₃, reify}
-use Rattle.integers.specs.Order.{_≼_, _≺_, num, num⁺, _⊞_, _⊠_, gap}
+use Rattle.integers.specs.RingSolver.{name₂, reify}
+use Rattle.integers.specs.Order.{_≼_, _≺_, num, num⁺, _⊞_, _⊠_}
 use Rattle.integers.specs.Omega.{zarith}
 use Rattle.integers.specs.Inequalities.{from, _&_, weak, _⊠⁺_, ≼-*l-off}
-use Rattle.model.specs.Fractions.{Frac, Point, Closer, Farther}
-use Rattle.model.specs.Strips.{Side, Strip}
+use Rattle.model.specs.Fractions.{Point, Farther}
+use Rattle.model.specs.Strips.{Strip}
 use Rattle.model.specs.Exact.{Points}
-use Rattle.model.specs.Trees.{Tree, leaf, long, node}
-use Rattle.model.specs.Explore.{Cell, Answer, inside, away, maybe, isInside, isAway₁, isAway₂, judge, verdict, join, settle, explore, exploreAll}
+use Rattle.model.specs.Trees.{Tree}
+use Rattle.model.specs.Explore.{Cell, Answer, inside, away, maybe, isInside, isAway₁, isAway₂, judge, verdict, join, settle, explore}
 use Rattle.integers.specs.Within.{Within}
-use Rattle.enclosure.specs.Covers.{In, Covers, at-leaf, at-long, at-node, CoversAll, at-end, at-cons}
-use Rattle.verdicts.specs.Answers.{clash, or-true, judge-inside, judge-away, settle-inside, settle-away, join-inside, join-away}
+use Rattle.enclosure.specs.Covers.{In, Covers, at-leaf, at-long, at-node}
+use Rattle.verdicts.specs.Answers.{clash, judge-inside, judge-away, settle-inside, settle-away, join-inside, join-away}
 use Rattle.verdicts.specs.Apart.{InCell}
 use Rattle.verdicts.specs.Tests.{AllCloser, AllFarther, AllAtLeast, AllAtMost, verdict-sound, away-means, fine}
 use Rattle.verdicts.specs.Trees.{Sound, some, tree-inside, tree-away}

@@ -1,2 +1,3 @@
+-- Laws that the proofs of the walks over open edges share.
 pub mod Asks
 pub mod Listing

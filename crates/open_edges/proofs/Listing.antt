@@ -1,7 +1,7 @@
 -- The walk over a store that lists where its trees start: what is listed, and what lies ahead. Assumes nothing.
 use mathlib.Core.Path.{_≡_, refl, sym, ap, _∙_, subst}
 use mathlib.Core.List.{List, [], _∷_, _++_, append-assoc}
-use Prim.Native.Nat.{ℕ, zero, suc, _+_, _*_, _≤_, _<_}
+use Prim.Native.Nat.{ℕ, zero, suc, _+_, _*_, _<_}
 use native.Mathlib.Omega.{arith}
 use lib.IntN.{ℤ, pos, natAbs}
 use lib.ListN.{length, getD, set, take, drop}
@@ -12,7 +12,7 @@ use Rattle.ranges.specs.Sizes.{EachSized}
 use Rattle.search.proofs.Flat.{length-flatten}
 use Rattle.open_edges.specs.Starts.{At, Starts, none, Holds}
 use Rattle.open_edges.specs.Looked.{starts-snoc}
-use Rattle.open_edges.proofs.Asks.{Here, here}
+use Rattle.open_edges.proofs.Asks.{here}
 
 -- from place a on the store holds the trees ts
 pub record Ahead (store : List ℤ) (a : ℕ) (ts : List Tree) : Type 0 where

@@ -1,7 +1,7 @@
 -- How many trees were kept tells the answer, where it is not inside. Assumes nothing.
-use mathlib.Core.Path.{_≡_, refl, sym, _∙_, ap, subst}
+use mathlib.Core.Path.{_≡_, refl, _∙_, subst}
 use mathlib.Core.List.{List, [], _∷_}
-use Prim.Native.Nat.{ℕ, zero, suc, _+_, _≤_, _<_}
+use Prim.Native.Nat.{ℕ, zero, suc, _≤_, _<_}
 use native.Mathlib.Omega.{arith}
 use lib.IntN.{ℤ}
 use lib.ListN.{length, take}
@@ -9,7 +9,6 @@ use lib.Seq.{length-take-le}
 use Rattle.model.specs.Strips.{Strip}
 use Rattle.model.specs.Trees.{Tree}
 use Rattle.model.specs.Explore.{Answer, inside, away, maybe, join, explore, exploreAll}
-use Rattle.verdicts.specs.Answers.{clash}
 use Rattle.inheritance.specs.Edges.{keep, opened}
 use Rattle.open_edges.specs.Starts.{Starts}
 use Rattle.open_edges.specs.Looked.{starts-long}

@@ -5,8 +5,8 @@ use mathlib.Core.Logic.{⊎-elim}
 use Prim.Native.Nat.{ℕ, zero, suc, _+_, _≤_, _<_}
 use native.Mathlib.Omega.{arith}
 use lib.IntN.{ℤ}
-use lib.ListN.{length, getD, set, take, drop, take-append-drop, length-take}
-use lib.Seq.{take-suc-set, take-all, length-take-le, getD-take}
+use lib.ListN.{length, getD, set, take, drop, take-append-drop}
+use lib.Seq.{take-suc-set, take-all}
 use Rattle.model.specs.Strips.{Strip}
 use Rattle.model.specs.Trees.{Tree}
 use Rattle.model.specs.Explore.{Answer, inside, away, maybe, join, explore, exploreAll}

@@ -2,8 +2,7 @@
 use mathlib.Core.Path.{_≡_, refl, sym, ap, _∙_, subst}
 use mathlib.Core.Bool.{cond}
 use mathlib.Core.List.{List}
-use Prim.Native.Nat.{ℕ, suc, _+_, _*_, _-_, _≤_, _<_}
-use native.Mathlib.Nat.{le-refl}
+use Prim.Native.Nat.{ℕ, _+_, _*_, _-_, _≤_}
 use native.Mathlib.Omega.{arith}
 use lib.Dec.{ltb}
 use lib.IntN.{ℤ, pos, natAbs}
@@ -12,10 +11,10 @@ use Rattle.model.specs.Strips.{Strip}
 use Rattle.model.specs.Trees.{Tree, leaf, long, node}
 use Rattle.model.specs.Explore.{Answer, inside, away, maybe, explore, join, settle}
 use Rattle.strip_tests.specs.PlainTests.{code}
-use Rattle.model.specs.Store.{size, flatten}
+use Rattle.model.specs.Store.{flatten}
 use Rattle.ranges.specs.Sizes.{Sized, AllSized}
 use Rattle.search.specs.Held.{stripAt}
-use Rattle.search.proofs.Flat.{size-pos, Halves, halves, Kept, kept′}
+use Rattle.search.proofs.Flat.{size-pos, Halves, halves, kept′}
 
 pub join-is : (a b : Answer) → cond (ltb (code a) (code b)) (code b) (code a) ≡ code (join a b)
 join-is inside inside = refl

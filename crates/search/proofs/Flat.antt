@@ -1,6 +1,6 @@
 -- Laws of a tree's numbers: how many, where the counts stand, which parts are the halves'.
 use mathlib.Core.Path.{_≡_, refl, sym, ap, _∙_}
-use mathlib.Core.List.{List, [], _∷_, _++_}
+use mathlib.Core.List.{List, _++_}
 use Prim.Native.Nat.{ℕ, suc, _+_, _*_, _-_, _≤_, _<_}
 use native.Mathlib.Omega.{arith}
 use lib.Dec.{T}
@@ -8,7 +8,7 @@ use lib.IntN.{ℤ, pos, natAbs}
 use lib.Signed.{nonNeg}
 use lib.ListN.{length, getD, take, drop, length-append, length-drop}
 use lib.Seq.{take-at, take-all, drop-at, drop-drop}
-use Rattle.model.specs.Store.{size, numbers, flatten}
+use Rattle.model.specs.Store.{size, flatten}
 use Rattle.ranges.specs.Sizes.{Sized, AllSized}
 use Rattle.search.specs.Held.{TreeOf, stripAt}
 use Rattle.model.specs.Strips.{Strip}

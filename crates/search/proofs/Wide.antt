@@ -1,27 +1,27 @@
 -- Where r² ≤ 2 s² no node is inside. Assumes nothing.
 use mathlib.Core.Path.{_≡_, refl, sym, subst}
-use mathlib.Core.Bool.{Bool, true, false, not}
-use Prim.Native.Nat.{ℕ, _≤_}
+use mathlib.Core.Bool.{Bool, true, false}
+use Prim.Native.Nat.{_≤_}
 use native.Mathlib.Omega.{arith}
 use lib.Dec.{T}
 use lib.IntN.{ℤ, pos, negsuc, _+ℤ_, _-ℤ_, _*ℤ_}
-use lib.Signed.{ltZ, leZ, ltZ-yes, leZ-yes, nonNeg, clashℤ}
-use Rattle.integers.specs.RingSolver.{name₂, name₄, name₅, reify}
-use Rattle.integers.specs.Order.{_≼_, _≺_, num, _⊞_, _⊠_}
+use lib.Signed.{leZ, ltZ-yes, leZ-yes, nonNeg, clashℤ}
+use Rattle.integers.specs.RingSolver.{name₄, reify}
+use Rattle.integers.specs.Order.{_≼_, num, _⊞_, _⊠_}
 use Rattle.integers.specs.Omega.{zarith}
 use Rattle.integers.specs.Inequalities.{from, _&_}
 use Rattle.integers.specs.Absolute.{absℤ, abs-nonneg}
-use Rattle.model.specs.Strips.{Side, Strip}
-use Rattle.model.specs.Explore.{Cell, Answer, inside, away, maybe, farthest, isInside, isAway₁, isAway₂, judge, verdict}
+use Rattle.model.specs.Strips.{Side}
+use Rattle.model.specs.Explore.{Answer, inside, away, maybe, farthest, isInside, judge, verdict}
 use Rattle.strip_tests.specs.PlainTests.{code}
-use Rattle.ranges.specs.Sizes.{SideSized, Sized}
+use Rattle.ranges.specs.Sizes.{SideSized}
 use Rattle.search.specs.Held.{cellAt, Enough}
 
 nonneg : (z : ℤ) → T (nonNeg z) → pos 0 ≼ z
 nonneg (pos n) t = num n
 nonneg (negsuc n) t = absurd t
 
--- a farthest is at least the half side
+-- the farthest is at least the half side
 far : (w p b s : ℤ) → pos 0 ≼ w → pos 0 ≼ p → pos 0 ≼ b → pos 0 ≼ s → s *ℤ s ≼ (w +ℤ p +ℤ (b +ℤ s)) *ℤ (w +ℤ p +ℤ (b +ℤ s))
 far w p b s hw hp hb hs = from ((hw ⊞ hp ⊞ hb) ⊠ (hw ⊞ hp ⊞ hb) & (hw ⊞ hp ⊞ hb) ⊠ hs) (name₄ w p b s λ σ x y z u. simp (x, y, z, u, reify, σ) (omega zarith))
 

@@ -1,20 +1,19 @@
 -- What the tests' functions return, as numbers made of numbers made, with their bounds. Assumes nothing.
-use mathlib.Core.Path.{_≡_, refl, sym, ap, _∙_, subst}
+use mathlib.Core.Path.{_≡_, refl, ap, _∙_}
 use mathlib.Core.Bool.{Bool, true, false, cond}
-use Prim.Native.Nat.{ℕ, zero, suc, _+_, _*_, _≤_, _<_, _^_, zero-le}
-use native.Mathlib.Nat.{le-refl, le-trans, mul-le-mul, add-le-add}
+use Prim.Native.Nat.{ℕ, _+_, _*_, _≤_, _^_}
+use native.Mathlib.Nat.{le-trans, add-le-add}
 use native.Mathlib.Omega.{arith}
-use lib.Dec.{T, ltb, leb, leb→le}
-use lib.IntN.{ℤ, pos, negsuc, negℤ, natAbs, _+ℤ_, _-ℤ_, _*ℤ_}
+use lib.Dec.{T, ltb}
+use lib.IntN.{ℤ, pos, negsuc, negℤ, natAbs, _+ℤ_, _-ℤ_}
 use lib.Signed.{ltZ, nonNeg}
 use mir.Syntax.{w64}
-use mir.Val.{SFits, toZ, ofZ}
-use borrow.Author.Tests.{ltb-true, ltb-false}
+use mir.Val.{toZ, ofZ}
 use Rattle.integers.specs.Signed.{Made, called, back, natAbs-add, natAbs-neg}
 use Rattle.integers.specs.Absolute.{absℤ}
 use Rattle.model.specs.Explore.{squares}
 use Rattle.strip_tests.specs.Limits.{NodeSized, SpanSized}
-use Rattle.strip_tests.specs.PlainTests.{excessBy, mostBy, capBy}
+use Rattle.strip_tests.specs.PlainTests.{excessBy, mostBy}
 
 abs-size : (x : ℤ) → natAbs (absℤ x) ≡ natAbs x
 unfolding absℤ

@@ -10,9 +10,9 @@ use Rattle.integers.specs.Omega.{zarith}
 use Rattle.integers.specs.Inequalities.{from, _&_}
 use Rattle.integers.specs.Absolute.{absℤ}
 use Rattle.integers.specs.RingSolver.{name₃, reify, close, ok}
-use Rattle.model.specs.Strips.{Side, Strip}
+use Rattle.model.specs.Strips.{Strip}
 use Rattle.model.specs.Roots.{root}
-use Rattle.model.specs.Explore.{Cell, squares, farthest, room, closest, atLeast0, isInside, isAway₁, isAway₂, Answer, inside, away, maybe, judge, verdict}
+use Rattle.model.specs.Explore.{Cell, squares, atLeast0, isInside, isAway₁, isAway₂, Answer, inside, away, maybe, judge, verdict}
 
 abbrev pub insideBy : ℤ → ℤ → ℤ → ℤ → ℤ → Bool
 insideBy ax ay ex ey r = ltZ (squares (ax +ℤ ex) (ay +ℤ ey)) (r *ℤ r)

@@ -1,5 +1,5 @@
--- Demand 3 of the defined map: a verdict clear or inside is the exact verdict, a settled D stands in the band; the settled is the exact verdict exactly when it is not D.
--- Assumes nothing.
+-- Demand 3 of the defined map: clear and inside are exact, doubtful lies in the band, and a verdict is the exact one exactly where it is not
+-- doubtful. Assumes nothing.
 use mathlib.Core.Path.{_≡_, refl, sym, _∙_, subst}
 use mathlib.Core.Bool.{Bool, true, false}
 use mathlib.Core.List.{List, [], _∷_}
@@ -21,7 +21,7 @@ use Rattle.model.specs.Store.{forest}
 use Rattle.model.specs.Explore.{verdict, exploreAll}
 use Rattle.model.specs.Plates.{Verdict, clear, within, doubtful, mixed, letter, drawn, columns, mapped, mapOf}
 use Rattle.model.specs.Exact.{Points, Outline, Along, CellPoint, Clear, Inside, Exact, R-E, R+E, NoCloser, SomeNear, Demand3}
-use Rattle.model.specs.Promises.{MapHolds, DemandThree, ExactUnique}
+use Rattle.model.specs.Promises.{DemandThree, ExactUnique}
 use Rattle.sequences.specs.RowMajor.{getD-rowMajor}
 use Rattle.enclosure.specs.Covers.{CoversAll}
 use Rattle.enclosure.specs.Edges.{trees-cover}
@@ -107,7 +107,7 @@ corner-in : (M : ℕ) (X Y : ℤ) (i j : ℕ) → CellPoint M X Y i j (corner M 
 unfolding corner
 corner-in M X Y i j = record { column = corner-along X i (2 ^ M); row = corner-along Y j (2 ^ M) }
 
--- ---- a letter, for any outline and any list of trees that covers it
+-- ---- a verdict, for any outline and any list of trees that covers it
 module _ (O : Points) (ts : List Tree) (cov : CoversAll O ts) (R T : ℤ) (hR : pos 0 ≼ R) (hT : pos 0 ≼ T) (M : ℕ) (X Y : ℤ) (i j : ℕ) where
   abbrev r : ℤ
   r = pos 16 *ℤ R

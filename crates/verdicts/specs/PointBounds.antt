@@ -1,26 +1,26 @@
 -- The two bounds of a point's squared distance hold of the outline: a point is the cell of half side 0. Assumes nothing.
-use mathlib.Core.Path.{_≡_, refl, sym, _∙_, ap, subst}
+use mathlib.Core.Path.{_≡_, refl, sym, ap, subst}
 use mathlib.Core.Bool.{Bool, true, false, cond}
 use mathlib.Core.List.{List, [], _∷_, _++_}
 use mathlib.Core.Logic.{_⊎_, inl, inr, ⊎-elim}
-use Prim.Native.Nat.{ℕ, zero, suc, _+_, _*_, _≤_}
+use Prim.Native.Nat.{ℕ, zero, suc, _+_, _≤_}
 use native.Mathlib.Omega.{arith}
-use lib.IntN.{ℤ, pos, _+ℤ_, _-ℤ_, _*ℤ_}
+use lib.IntN.{ℤ, pos, _-ℤ_, _*ℤ_}
 use lib.Signed.{ltZ}
-use Rattle.integers.specs.RingSolver.{name₁, name₃, name₄, reify}
+use Rattle.integers.specs.RingSolver.{name₁, name₄, reify}
 use Rattle.integers.specs.Order.{_≼_, _≺_, ≼-refl, _⊠_, gap}
 use Rattle.integers.specs.Omega.{zarith}
 use Rattle.integers.specs.Inequalities.{from, _&_, weak, ≼-trans}
 use Rattle.integers.specs.Within.{Within}
 use Rattle.model.specs.declared.Job.{Job}
-use Rattle.model.specs.Jobs.{Edge, outline, edgesFrom, edgeAt, judge}
+use Rattle.model.specs.Jobs.{outline, edgesFrom, edgeAt, judge}
 use Rattle.model.specs.Strips.{Strip}
 use Rattle.model.specs.Trees.{Tree, leaf, long, node, tree, trees}
 use Rattle.model.specs.Store.{forest}
 use Rattle.model.specs.Fractions.{whole, Point, dist²}
-use Rattle.model.specs.Explore.{Cell, closest², farthest²}
-use Rattle.model.specs.Exact.{Points, Outline}
-use Rattle.model.specs.Distance.{spot, leaves, leavesAll, lesser, least, lo, hi, Some}
+use Rattle.model.specs.Explore.{closest², farthest²}
+use Rattle.model.specs.Exact.{Points}
+use Rattle.model.specs.Distance.{spot, leaves, leavesAll, least, lo, hi, Some}
 use Rattle.model.specs.Promises.{Bounds}
 use Rattle.enclosure.specs.Covers.{In, Covers, at-leaf, at-long, at-node, CoversAll, at-end, at-cons}
 use Rattle.verdicts.specs.Answers.{lt-true, lt-false}

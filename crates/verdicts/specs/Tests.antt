@@ -53,7 +53,7 @@ length-reaches S =
     subst (λ t. t ≼ lengthOf S *ℤ lengthOf S) (pos-natAbs n (yes-nonNeg (sq (S .x .axis) ⊞ sq (S .y .axis)))) (pos-≼ (root-reaches (natAbs n)))
 
 module _ (r : ℤ) (c : Cell) (S : Strip) (P Q : Point) (i : In S P) (j : InCell c Q) where
-  -- 16 |x| ≤ farthest · D, gap · D ≤ 16 |x|
+  -- 16 |x| is at most the farthest, and at least the room, times D
   reachX : Within (pos 16 *ℤ apartX P Q) (farthest (c .cx) (c .s) (S .x) *ℤ apartD P Q)
   reachX = reach-bound (apartX P Q) (apartD P Q) (i .e .low) (i .e .top) (c .cx -ℤ S .x .centre) (S .x .axis) (S .x .box +ℤ c .s) (apart-up P Q) (i .e .up) (i .unit) (spreadX S c P Q i j)
 

@@ -1,13 +1,12 @@
 -- `drawing::draw` meets its contract: a settled block is filled, and any other is drawn in quarters. Assumes nothing.
-use mathlib.Core.Path.{_≡_, refl, sym, _∙_}
+use mathlib.Core.Path.{_∙_}
 use mathlib.Core.List.{List}
-use Prim.Native.Nat.{ℕ, _+_, _*_, _/_, _≤_, _<_}
+use Prim.Native.Nat.{ℕ, _+_, _/_, _≤_, _<_}
 use native.Mathlib.Omega.{arith}
-use lib.ListN.{length, take}
+use lib.ListN.{take}
 use Rattle.model.specs.Trees.{Tree}
 use Rattle.inheritance.specs.Edges.{opened, opened-inherits}
 use Rattle.open_edges.specs.Starts.{Starts}
-use Rattle.drawing.specs.declared.Frame.{Frame}
 use Rattle.drawing.specs.Letters.{asked, ownLetter}
 use Rattle.drawing.specs.Ready.{Ready}
 use Rattle.drawing.proofs.Settles.{letter-open}
@@ -45,7 +44,7 @@ draw-fill-square-requires : (t : ℕ) → draw-lts.Need-fill-square-requires (ca
 draw-fill-square-requires t c κs =
     let s = c .before .before .before .before .before .before in
     let p = s .pre .1 .0 in
-    (p .frame-sized .n-size, p .columns-fit, p .rows-fit, s .pre .1 .1)
+    (p .frame-sized .n-size, omega (arith, p .columns-fit), omega (arith, p .rows-fit), s .pre .1 .1)
 
 draw-same-length : (t : ℕ) → draw-lts.Need-same-length (callees t) (draw-at t) draw.Post
 draw-same-length t c = c .before .before .fill-square .kept .0

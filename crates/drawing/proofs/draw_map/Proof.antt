@@ -16,12 +16,6 @@ use Rattle.drawing.specs.Ready.{Ready, MapReady}
 use Rattle.drawing.proofs.Maps.{jobFrame, frame-is, numbers-sized, held, count-most, whole-ready, inherits, map-is}
 use Rattle.drawing.proofs.draw_map.Statement.{statement}
 use Rattle.drawing.proofs.draw_map.Tie as tie
-use Rattle.drawing.proofs.draw_map.Reads as reads
-use Rattle.drawing.proofs.draw_map.Lts as lts
-use Rattle.drawing.proofs.draw.Reads as draw-reads
-use Rattle.drawing.proofs.frame_of.Reads as frame-of-reads
-use Rattle.drawing.proofs.no_starts.Reads as no-starts-reads
-use Rattle.open_edges.proofs.list_starts.Reads as list-starts-reads
 
 -- what a job's numbers say of the arguments
 module _ (s : tie.Start) (j : Job) where

@@ -1,20 +1,17 @@
 -- `drawing::frame_of` meets its contract. Assumes nothing.
-use mathlib.Core.Path.{_≡_, refl, ap, _∙_}
+use mathlib.Core.Path.{_≡_, ap, _∙_}
 use Prim.Native.Nat.{ℕ, _*_, _^_, _≤_, _<_}
 use native.Mathlib.Omega.{arith}
 use borrow.Author.Needs.{needs}
 use lib.Pow.{pow-mono}
 use lib.IntN.{ℤ, pos, _*ℤ_}
 use mir.Syntax.{w64}
-use mir.Val.{SFits, toZ, ofZ}
+use mir.Val.{toZ, ofZ}
 use mir.Facts.{toZ-pos}
 use Rattle.integers.specs.Signed.{Made, arg, lit, times, back, fits64}
 use Rattle.drawing.specs.declared.Frame.{Frame}
 use Rattle.drawing.proofs.frame_of.Statement.{statement}
 use Rattle.drawing.proofs.frame_of.Tie as tie
-use Rattle.drawing.proofs.frame_of.Reads as reads
-use Rattle.drawing.proofs.frame_of.Lts as lts
-use Rattle.drawing.proofs.power_of_two.Reads as power-of-two-reads
 
 module _ (c : tie.Start) where
   x : Made (pos 16 *ℤ toZ w64 (ofZ w64 (c .args .x))) (pos 16 *ℤ c .args .x) 16000000

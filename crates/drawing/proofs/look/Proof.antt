@@ -1,5 +1,5 @@
 -- `drawing::look` meets its contract: the block's cell is handed to the walk over the open trees. Assumes nothing.
-use mathlib.Core.Path.{_≡_, sym, ap₂, _∙_}
+use mathlib.Core.Path.{_≡_}
 use lib.IntN.{ℤ, pos, _*ℤ_}
 use mir.Syntax.{w64}
 use mir.Val.{toZ, ofZ}
@@ -10,11 +10,6 @@ use Rattle.drawing.specs.Ready.{FrameSized}
 use Rattle.drawing.proofs.Cells.{x-back, y-back, q-back, reach-back, block-sized, middle-asked, half-asked, middle-is, half-is}
 use Rattle.drawing.proofs.look.Statement.{statement}
 use Rattle.drawing.proofs.look.Tie as tie
-use Rattle.drawing.proofs.look.Reads as reads
-use Rattle.drawing.proofs.look.Lts as lts
-use Rattle.drawing.proofs.half_side.Reads as half-side-reads
-use Rattle.drawing.proofs.middle.Reads as middle-reads
-use Rattle.open_edges.proofs.explore_open.Reads as explore-open-reads
 
 middle-requires : tie.Need-middle-requires
 middle-requires c κs =

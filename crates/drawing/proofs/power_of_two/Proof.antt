@@ -1,14 +1,12 @@
 -- `drawing::power_of_two` meets its contract: v is 2 to the i. Assumes nothing.
 use mathlib.Core.Path.{_≡_, refl, _∙_, ap}
-use Prim.Native.Nat.{_+_, _-_, _*_, _^_, _≤_}
+use Prim.Native.Nat.{_-_, _*_, _^_, _≤_}
 use native.Mathlib.Nat.{pow-suc}
 use native.Mathlib.Numerals.{add-one}
 use native.Mathlib.Omega.{arith}
 use lib.Pow.{pow-mono}
 use Rattle.drawing.proofs.power_of_two.Statement.{statement}
 use Rattle.drawing.proofs.power_of_two.Tie as tie
-use Rattle.drawing.proofs.power_of_two.Reads as reads
-use Rattle.drawing.proofs.power_of_two.Lts as lts
 
 abbrev Inv-loop : tie.InvT-loop
 Inv-loop k v₀ i₀ v i = (i ≤ k) × (v ≡ 2 ^ i)

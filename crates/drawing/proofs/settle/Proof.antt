@@ -1,12 +1,12 @@
 -- `drawing::settle` meets its contract: how many trees are kept tells the answer where none is inside. Assumes nothing.
-use mathlib.Core.Path.{_≡_, refl, sym, _∙_}
+use mathlib.Core.Path.{_≡_, refl}
 use mathlib.Core.List.{List}
 use Prim.Native.Nat.{ℕ, _≤_, _<_}
 use native.Mathlib.Omega.{arith}
 use borrow.Author.Needs.{needs}
 use lib.ListN.{length, take}
 use Rattle.model.specs.Trees.{Tree}
-use Rattle.model.specs.Explore.{inside, away, maybe, exploreAll}
+use Rattle.model.specs.Explore.{inside, maybe, exploreAll}
 use Rattle.inheritance.specs.Edges.{opened}
 use Rattle.open_edges.specs.Starts.{Starts}
 use Rattle.open_edges.specs.Counts.{none-kept, some-kept}
@@ -14,9 +14,6 @@ use Rattle.drawing.specs.Letters.{asked}
 use Rattle.drawing.proofs.Settles.{letter-inside, letter-away, letter-maybe}
 use Rattle.drawing.proofs.settle.Statement.{statement}
 use Rattle.drawing.proofs.settle.Tie as tie
-use Rattle.drawing.proofs.settle.Reads as reads
-use Rattle.drawing.proofs.settle.Lts as lts
-use Rattle.drawing.proofs.look.Reads as look-reads
 
 look-requires : tie.Need-look-requires
 look-requires c κs = search needs

@@ -5,9 +5,6 @@ use native.Mathlib.Omega.{arith}
 use Rattle.filling.proofs.Rows.{row-end, part-fill}
 use Rattle.filling.proofs.fill_row.Statement.{statement}
 use Rattle.filling.proofs.fill_row.Tie as tie
-use Rattle.filling.proofs.fill_row.Reads as reads
-use Rattle.filling.proofs.fill_row.Lts as lts
-use Rattle.filling.proofs.fill.Reads as fill-reads
 
 mul-a : tie.Need-mul-a
 mul-a c = omega (arith, row-end (c .before .args .j) (c .before .args .n) (c .before .pre .1))

@@ -1,18 +1,14 @@
 -- `filling::fill_square` meets its contract. Assumes nothing.
 use mathlib.Core.Path.{_≡_, refl, _∙_}
 use mathlib.Core.Bool.{cond, _&&_}
-use Prim.Native.Nat.{ℕ, _+_, _*_, _-_, _≤_, _<_}
+use Prim.Native.Nat.{_+_, _*_, _-_, _≤_}
 use native.Mathlib.Omega.{arith}
-use borrow.Author.Needs.{needs}
 use lib.Dec.{leb, ltb}
 use lib.ListN.{length, getD}
 use Rattle.filling.specs.Squares.{among, Drawn}
 use Rattle.filling.proofs.Rows.{one-row, no-row, row-past}
 use Rattle.filling.proofs.fill_square.Statement.{statement}
 use Rattle.filling.proofs.fill_square.Tie as tie
-use Rattle.filling.proofs.fill_square.Reads as reads
-use Rattle.filling.proofs.fill_square.Lts as lts
-use Rattle.filling.proofs.fill_row.Reads as fill-row-reads
 
 abbrev Inv-loop : tie.InvT-loop
 Inv-loop map₀ n c r w b end j₀ map j =

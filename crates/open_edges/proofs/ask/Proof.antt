@@ -1,4 +1,4 @@
-use mathlib.Core.Path.{_≡_}
+-- `open_edges::ask` meets its contract: the tree's part is found by its count. Assumes nothing.
 use native.Mathlib.Omega.{arith}
 use mir.Facts.{toZ-ofZ}
 use mir.Syntax.{w64}
@@ -8,10 +8,6 @@ use Rattle.open_edges.proofs.Asks.{front, Here, here}
 use borrow.Author.Needs.{needs}
 use Rattle.open_edges.proofs.ask.Statement.{statement}
 use Rattle.open_edges.proofs.ask.Tie as tie
-use Rattle.open_edges.proofs.ask.Reads as reads
-use Rattle.open_edges.proofs.ask.Lts as lts
-use Rattle.search.proofs.count_at.Reads as count-at-reads
-use Rattle.search.proofs.search.Reads as search-reads
 
 known : (c : tie.After-count-at) → Here (c .before .args .store .now) (c .before .args .a) (c .count-at .result) (c .before .pre .0 .tree)
 known c = let s = c .before in here (s .args .store .now) (s .args .a) (c .count-at .result) (s .pre .0 .tree) (s .pre .0 .at) (c .count-at .ensures)
@@ -22,43 +18,33 @@ cell c = rw (toZ-ofZ (c .fits .x), toZ-ofZ (c .fits .y), toZ-ofZ (c .fits .s), t
 enough : (c : tie.Start) → Enough (toZ w64 (ofZ w64 (c .args .x))) (toZ w64 (ofZ w64 (c .args .y))) (toZ w64 (ofZ w64 (c .args .s))) (toZ w64 (ofZ w64 (c .args .r))) (c .args .enough)
 enough c = rw (toZ-ofZ (c .fits .x), toZ-ofZ (c .fits .y), toZ-ofZ (c .fits .s), toZ-ofZ (c .fits .r)) (c .pre .2)
 
--- src/lib.rt:21:34
 add-count-at : tie.Need-add-count-at
 add-count-at c = omega (arith, front (c .args .store .now) (c .args .a) (c .pre .0 .tree) (c .pre .0 .at) .0)
 
--- src/lib.rt:21:9
 count-at-requires : tie.Need-count-at-requires
 count-at-requires c κs = front (c .args .store .now) (c .args .a) (c .pre .0 .tree) (c .pre .0 .at)
 
--- src/lib.rt:22:17
 mul-b : tie.Need-mul-b
 mul-b c = omega (arith, known c .long)
 
--- src/lib.rt:22:13
 add-b : tie.Need-add-b
 add-b c = omega (arith, known c .long)
 
--- src/lib.rt:23:20
 mul-search : tie.Need-mul-search
 mul-search c = omega (arith, known c .long)
 
--- src/lib.rt:23:20
 sub-search : tie.Need-sub-search
 sub-search c = search needs
 
--- src/lib.rt:23:20
 part-search-start : tie.Need-part-search-start
 part-search-start c = search needs
 
--- src/lib.rt:23:20
 part-search-end : tie.Need-part-search-end
 part-search-end c = omega (arith, known c .long)
 
--- src/lib.rt:23:5
 search-requires : tie.Need-search-requires
 search-requires c κs = let s = c .before .before in (record { tree = s .pre .0 .tree; is = known (c .before) .part; sized = s .pre .0 .at .sized }, cell s, enough s)
 
--- src/lib.rt:17:1
 returns : tie.Need-returns
 returns c = λ t h. let s = c .before .before .before in rw (toZ-ofZ (s .fits .x), toZ-ofZ (s .fits .y), toZ-ofZ (s .fits .s), toZ-ofZ (s .fits .r)) at (c .search .ensures t (h .sized) (here (s .args .store .now) (s .args .a) (c .before .before .count-at .result) t h (c .before .before .count-at .ensures) .part))
 

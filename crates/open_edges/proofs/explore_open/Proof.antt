@@ -1,27 +1,23 @@
+-- `open_edges::explore_open` meets its contract: k trees on, none is inside and those not away are kept. Assumes nothing.
 use mathlib.Core.List.{List}
 use lib.Seq.{length-take-le, getD-take}
 use Rattle.model.specs.Strips.{Strip}
 use Rattle.model.specs.Trees.{Tree}
 use Rattle.verdicts.specs.Answers.{clash}
 use Rattle.inheritance.specs.Edges.{opened}
-use Prim.Native.Nat.{ℕ, suc, _+_, _-_, _≤_, _<_}
-use mathlib.Core.Path.{_≡_, refl, sym, ap, _∙_, subst}
+use Prim.Native.Nat.{ℕ, _-_, _≤_, _<_}
+use mathlib.Core.Path.{_≡_, _∙_}
 use native.Mathlib.Omega.{arith}
-use borrow.Author.Needs.{needs}
-use lib.ListN.{length, take, getD, set, length-set}
+use lib.ListN.{length, take, getD, length-set}
 use mir.Syntax.{w64}
 use mir.Val.{toZ, ofZ}
 use mir.Facts.{toZ-ofZ}
 use Rattle.model.specs.Explore.{Answer, inside, verdict, explore, exploreAll}
-use Rattle.search.specs.Held.{CellSized, Enough, cellAt}
-use Rattle.open_edges.specs.Starts.{At, TreeAt, Starts, Forest}
+use Rattle.search.specs.Held.{CellSized, cellAt}
+use Rattle.open_edges.specs.Starts.{Starts}
 use Rattle.open_edges.specs.Looked.{Looked, begin, next-away, next-maybe, last-inside, tree-at, finish, is-inside, is-maybe, is-away}
 use Rattle.open_edges.proofs.explore_open.Statement.{statement}
 use Rattle.open_edges.proofs.explore_open.Tie as tie
-use Rattle.open_edges.proofs.explore_open.Reads as reads
-use Rattle.open_edges.proofs.explore_open.Lts as lts
-use Rattle.open_edges.proofs.ask.Reads as ask-reads
-use Rattle.search.proofs.enough_for.Reads as enough-for-reads
 
 abbrev Inv-loop : tie.InvT-loop
 Inv-loop store list count keep₀ x y s r enough kept₀ k₀ keep kept k = (k ≤ count) × (kept ≤ k) × Looked store (verdict (toZ w64 r) (cellAt (toZ w64 x) (toZ w64 y) (toZ w64 s))) (take count list) keep kept k × (length keep ≡ 64)
@@ -54,64 +50,52 @@ read c = getD-take (c .before .before .before .args .count) (c .before .before .
 below : (c : tie.In-loop Inv-loop μ-loop) → c .before .loop .k < length (places (c .before .before .before))
 below c = omega (arith, places-long (c .before .before .before), c .loop-test .taken)
 
--- src/lib.rt:37:9
 enough-for-requires : tie.Need-enough-for-requires Inv-loop μ-loop
 enough-for-requires c κs =
     let f = cell c in (f .s-size, f .s-nonneg, f .reach-sized .r-size)
 
--- src/lib.rt:40:5
 loop-holds : tie.Need-loop-holds Inv-loop μ-loop
 loop-holds c =
     (omega arith, omega arith, begin (c .before .args .store .now) (by (c .before)) (places (c .before)) (c .before .args .keep .now), c .before .pre .4)
 
--- src/lib.rt:41:17
 mul-a : tie.Need-mul-a Inv-loop μ-loop
 mul-a c =
     omega (arith, c .before .before .before .pre .0, c .loop-test .taken)
 
--- src/lib.rt:41:17
 element-copy-out-a : tie.Need-element-copy-out-a Inv-loop μ-loop
 element-copy-out-a c =
     omega (arith, c .before .before .before .pre .0, c .loop-test .taken)
 
--- src/lib.rt:42:13
 ask-requires : tie.Need-ask-requires Inv-loop μ-loop
 ask-requires c κs =
     let s = c .before .before .before .before in (tree-at (c .before .before .before .before .args .store .now) (by (c .before .before .before .before)) (places (c .before .before .before .before)) (c .before .before .loop .k) (getD (c .before .before .before .before .args .list .now) (c .before .before .loop .k) 0) (below (c .before)) (read (c .before)) (s .pre .1), cell s, c .before .before .before .enough-for .ensures (toZ w64 (ofZ w64 (s .args .x))) (toZ w64 (ofZ w64 (s .args .y))))
 
--- src/lib.rt:44:13
 returns : tie.Need-returns Inv-loop μ-loop
 returns c =
     let s = c .before .before .before .before .before .before in
     let z : (ts : List Tree) → Starts (s .args .store .now) (places s) ts → exploreAll (by s) ts ≡ inside = last-inside (c .before .before .before .before .before .before .args .store .now) (by (c .before .before .before .before .before .before)) (places (c .before .before .before .before .before .before)) (c .before .before .before .before .loop .k) (getD (c .before .before .before .before .before .before .args .list .now) (c .before .before .before .before .loop .k) 0) (below (c .before .before .before)) (read (c .before .before .before)) (λ t h. is-inside (explore (by s) t) (c .before .ask .result) (c .before .ask .ensures t h) (c .if1 .taken)) in
     (c .before .before .before .before .loop .inv .3, ((λ e. rw (toZ-ofZ (s .fits .x), toZ-ofZ (s .fits .y), toZ-ofZ (s .fits .s), toZ-ofZ (s .fits .r)) at z), λ e. clash (cc)))
 
--- src/lib.rt:46:9
 add-k : tie.Need-add-k Inv-loop μ-loop
 add-k c =
     omega (arith, c .before .before .before .before .before .before .pre .0, c .before .before .before .loop-test .taken)
 
--- src/lib.rt:48:13
 mul-keep : tie.Need-mul-keep Inv-loop μ-loop
 mul-keep c =
     omega (arith, c .before .before .before .before .before .before .before .pre .0, c .before .before .before .before .loop-test .taken, c .before .before .before .before .before .loop .inv .1)
 
--- src/lib.rt:48:13
 element-write-keep : tie.Need-element-write-keep Inv-loop μ-loop
 element-write-keep c =
     omega (arith, c .before .before .before .before .before .before .before .pre .0, c .before .before .before .before .loop-test .taken, c .before .before .before .before .before .loop .inv .1)
 
--- src/lib.rt:49:13
 add-kept : tie.Need-add-kept Inv-loop μ-loop
 add-kept c =
     omega (arith, c .before .before .before .before .before .before .before .pre .0, c .before .before .before .before .loop-test .taken, c .before .before .before .before .before .loop .inv .1)
 
--- src/lib.rt:40:5
 loop-less : tie.Need-loop-less Inv-loop μ-loop
 loop-less c =
     omega (arith, c .before .before .before .before .loop-test .taken)
 
--- src/lib.rt:40:5
 loop-again : tie.Need-loop-again Inv-loop μ-loop
 loop-again c =
     let s = c .before .before .before .before .before .before .before in let l = c .before .before .before .before .before .loop in (
@@ -121,12 +105,10 @@ loop-again c =
       length-set (l .keep) (l .kept) _ ∙ l .inv .3,
     )
 
--- src/lib.rt:40:5
 loop-less-2 : tie.Need-loop-less-2 Inv-loop μ-loop
 loop-less-2 c =
     omega (arith, c .before .before .before .before .loop-test .taken)
 
--- src/lib.rt:40:5
 loop-again-2 : tie.Need-loop-again-2 Inv-loop μ-loop
 loop-again-2 c =
     let s = c .before .before .before .before .before .before .before in let l = c .before .before .before .before .before .loop in (
@@ -136,7 +118,6 @@ loop-again-2 c =
       l .inv .3,
     )
 
--- src/lib.rt:32:1
 returns-2 : tie.Need-returns-2 Inv-loop μ-loop
 returns-2 c =
     let s = c .before .before .before in let l = c .before .loop in

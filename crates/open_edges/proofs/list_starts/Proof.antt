@@ -1,19 +1,15 @@
 -- `open_edges::list_starts` meets its contract: e trees are listed, and the next begins at `at`. Assumes nothing.
-use mathlib.Core.Path.{_≡_, refl, sym, ap, _∙_, subst}
+use mathlib.Core.Path.{_≡_, sym, _∙_, subst}
 use mathlib.Core.List.{List}
-use Prim.Native.Nat.{ℕ, _+_, _*_, _-_, _≤_, _<_}
+use Prim.Native.Nat.{_-_, _≤_}
 use native.Mathlib.Omega.{arith}
 use lib.ListN.{length, take, length-set}
 use Rattle.model.specs.Trees.{Tree}
-use Rattle.model.specs.Store.{size}
 use Rattle.open_edges.specs.Starts.{Starts, Holds}
 use Rattle.open_edges.proofs.Asks.{front, Here, here}
 use Rattle.open_edges.proofs.Listing.{Listed, begin, Step, step, finish}
 use Rattle.open_edges.proofs.list_starts.Statement.{statement}
 use Rattle.open_edges.proofs.list_starts.Tie as tie
-use Rattle.open_edges.proofs.list_starts.Reads as reads
-use Rattle.open_edges.proofs.list_starts.Lts as lts
-use Rattle.search.proofs.count_at.Reads as count-at-reads
 
 abbrev Inv-loop : tie.InvT-loop
 Inv-loop store count list₀ at₀ e₀ list at e = (e ≤ count) × (length list ≡ 64) × ((ts : List Tree) → Holds store count ts → Listed store ts list at e)

@@ -1,5 +1,6 @@
+-- `search::search` meets its contract, by recursion on the count of nodes. Assumes nothing.
 use Prim.Native.Nat.{_+_, _*_, _-_, _≤_}
-use mathlib.Core.Path.{_≡_, sym, ap, ap₂, _∙_}
+use mathlib.Core.Path.{_≡_, sym, ap₂, _∙_}
 use mathlib.Core.Bool.{cond}
 use mathlib.Core.List.{List}
 use native.Mathlib.Omega.{arith}
@@ -84,79 +85,60 @@ at-most : (t : ℕ) (s : search-lts.Start (callees t) (search-at t) search′.Po
 unfolding Enough
 at-most t s a f = most (by t s) (s .args .enough) (s .pre .1 .2) a f
 
--- src/lib.rt:47:9
 search-own-requires : (t : ℕ) → search-lts.Need-own-requires (callees t) (search-at t) search′.Post
 search-own-requires t c κs = (front (c .pre .1 .0), first-sized (c .pre .1 .0), cell t c)
 
--- src/lib.rt:49:9
 search-returns : (t : ℕ) → search-lts.Need-returns (callees t) (search-at t) search′.Post
 search-returns t c = λ u f e. let s = c .before .before in closed (by t s) (list t s) (c .before .own .result) (own-is t (c .before)) (c .if1 .taken) u e
 
--- src/lib.rt:51:9
 search-count-at-requires : (t : ℕ) → search-lts.Need-count-at-requires (callees t) (search-at t) search′.Post
 search-count-at-requires t c κs = let s = c .before .before in (front (s .pre .1 .0), counted (s .pre .1 .0))
 
--- src/lib.rt:53:9
 search-returns-2 : (t : ℕ) → search-lts.Need-returns-2 (callees t) (search-at t) search′.Post
 search-returns-2 t c = λ u f e. let s = c .before .before .before .before in one (by t s) (list t s) (maybe-is t (c .before .before)) (sym (c .before .count-at .ensures) ∙ c .if2 .taken) u e
 
--- src/lib.rt:55:9
 search-count-at-requires-2 : (t : ℕ) → search-lts.Need-count-at-requires-2 (callees t) (search-at t) search′.Post
 search-count-at-requires-2 t c κs = thirteen (split (c .before .before .before .before .pre .1 .0) (not-one t c))
 
--- src/lib.rt:56:19
 search-mul-mid : (t : ℕ) → search-lts.Need-mul-mid (callees t) (search-at t) search′.Post
 search-mul-mid t c = let k = counts t c in omega (arith, k .has .long)
 
--- src/lib.rt:56:15
 search-add-mid : (t : ℕ) → search-lts.Need-add-mid (callees t) (search-at t) search′.Post
 search-add-mid t c = let k = counts t c in omega (arith, k .has .long)
 
--- src/lib.rt:57:23
 search-sub-search : (t : ℕ) → search-lts.Need-sub-search (callees t) (search-at t) search′.Post
 search-sub-search t c = omega arith
 
--- src/lib.rt:57:23
 search-part-search-start : (t : ℕ) → search-lts.Need-part-search-start (callees t) (search-at t) search′.Post
 search-part-search-start t c = omega arith
 
--- src/lib.rt:57:23
 search-part-search-end : (t : ℕ) → search-lts.Need-part-search-end (callees t) (search-at t) search′.Post
 search-part-search-end t c = let k = counts t c in omega (arith, k .has .long)
 
--- src/lib.rt:57:9
 search-search-requires : (t : ℕ) → search-lts.Need-search-requires (callees t) (search-at t) search′.Post
 search-search-requires t c κs = let k = counts t (c .before) in (below (k .left) _ t (k .has .part-left) (omega (arith, k .has .t-is)), (record { tree = k .left; is = k .has .part-left; sized = k .left-sized }, cell t (c .before .before .before .before .before .before), enough t (c .before .before .before .before .before .before)))
 
--- src/lib.rt:59:9
 search-returns-3 : (t : ℕ) → search-lts.Need-returns-3 (callees t) (search-at t) search′.Post
 search-returns-3 t c = let m = c .before .before .before in let s = c .before .before .before .before .before .before .before .before in both (by t s) (list t s) (m .count-at2 .result) (c .before .search .result) (maybe-is t (m .before .before .before)) (not-one t (m .before)) (m .count-at2 .ensures) (λ l r fl fr el er. stop (explore (by t s) l) (explore (by t s) r) (c .before .search .result) (s .args .enough) (left-is t (c .before) l fl el) (c .if3 .taken) (at-most t s r fr))
 
--- src/lib.rt:61:24
 search-mul-search : (t : ℕ) → search-lts.Need-mul-search (callees t) (search-at t) search′.Post
 search-mul-search t c = let k = counts t (c .before .before .before) in omega (arith, k .has .long)
 
--- src/lib.rt:61:24
 search-sub-search-2 : (t : ℕ) → search-lts.Need-sub-search-2 (callees t) (search-at t) search′.Post
 search-sub-search-2 t c = let k = counts t (c .before .before .before) in omega (arith, k .has .long)
 
--- src/lib.rt:61:24
 search-part-search-start-2 : (t : ℕ) → search-lts.Need-part-search-start-2 (callees t) (search-at t) search′.Post
 search-part-search-start-2 t c = let k = counts t (c .before .before .before) in omega (arith, k .has .long)
 
--- src/lib.rt:61:24
 search-part-search-end-2 : (t : ℕ) → search-lts.Need-part-search-end-2 (callees t) (search-at t) search′.Post
 search-part-search-end-2 t c = omega arith
 
--- src/lib.rt:61:9
 search-search-requires-2 : (t : ℕ) → search-lts.Need-search-requires-2 (callees t) (search-at t) search′.Post
 search-search-requires-2 t c κs = let k = counts t (c .before .before .before .before) in (below (k .right) _ t (k .has .part-right) (omega (arith, k .has .t-is)), (record { tree = k .right; is = k .has .part-right; sized = k .right-sized }, cell t (c .before .before .before .before .before .before .before .before .before), enough t (c .before .before .before .before .before .before .before .before .before)))
 
--- src/lib.rt:62:5
 search-join-requires : (t : ℕ) → search-lts.Need-join-requires (callees t) (search-at t) search′.Post
 search-join-requires t c κs = tt
 
--- src/lib.rt:43:1
 search-returns-4 : (t : ℕ) → search-lts.Need-returns-4 (callees t) (search-at t) search′.Post
 search-returns-4 t c = let m = c .before .before .before .before .before .before in let s = c .before .before .before .before .before .before .before .before .before .before .before in both (by t s) (list t s) (m .count-at2 .result) (c .join .result) (maybe-is t (m .before .before .before)) (not-one t (m .before)) (m .count-at2 .ensures) (λ l r fl fr el er. c .join .ensures ∙ ap₂ (λ p q. cond (ltb p q) q p) (left-is t (c .before .before .before .before) l fl el) (right-is t (c .before) r fr er) ∙ join-is (explore (by t s) l) (explore (by t s) r))
 

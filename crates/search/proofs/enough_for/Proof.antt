@@ -1,12 +1,8 @@
-use Rattle.integers.specs.Signed.{Made, called, arg, arg-pos, lit, plus, times, minus, widen, back}
-use lib.IntN.{ℤ, pos, natAbs}
-use mathlib.Core.Path.{_≡_, _∙_, sym, ap}
-use mir.Facts.{toZ-ofZ}
+-- `search::enough_for` meets its contract. Assumes nothing.
+use Rattle.integers.specs.Signed.{Made, arg, lit, times, back}
 use Rattle.search.proofs.Wide.{too-wide, any}
 use Rattle.search.proofs.enough_for.Statement.{statement}
 use Rattle.search.proofs.enough_for.Tie as tie
-use Rattle.search.proofs.enough_for.Reads as reads
-use Rattle.search.proofs.enough_for.Lts as lts
 
 module _ (c : tie.Start) where
   s : Made (c .args .s) (c .args .s) 134217728
@@ -15,23 +11,18 @@ module _ (c : tie.Start) where
   r : Made (c .args .r) (c .args .r) 16777216
   r = arg (c .pre .2) (c .fits .r)
 
--- src/lib.rt:70:8
 mul-if1 : tie.Need-mul-if1
 mul-if1 c = (times (r c) (r c) tt) .fits
 
--- src/lib.rt:70:17
 mul-if1-2 : tie.Need-mul-if1-2
 mul-if1-2 c = (times (lit 2 tt) (s c) tt) .fits
 
--- src/lib.rt:70:17
 mul-if1-3 : tie.Need-mul-if1-3
 mul-if1-3 c = (times (times (lit 2 tt) (s c) tt) (s c) tt) .fits
 
--- src/lib.rt:66:1
 returns : tie.Need-returns
 returns c = let d = c .before in too-wide (d .args .s) (d .args .r) (d .pre .1) (rw (back (times (r d) (r d) tt), back (times (times (lit 2 tt) (s d) tt) (s d) tt)) at (c .if1 .taken))
 
--- src/lib.rt:66:1
 returns-2 : tie.Need-returns-2
 returns-2 c = λ x y. any x y (c .before .args .s) (c .before .args .r)
 

@@ -1,17 +1,13 @@
-use Rattle.integers.specs.Signed.{Made, called, arg, arg-pos, lit, plus, times, minus, widen, back}
-use lib.IntN.{ℤ, pos, natAbs}
-use mathlib.Core.Path.{_≡_, _∙_, sym, ap}
-use mir.Facts.{toZ-ofZ}
+-- `search::own` meets its contract: z0 to z5 are the numbers of the first node. Assumes nothing.
+use Rattle.integers.specs.Signed.{Made, called, arg, plus, minus, back}
+use lib.IntN.{pos}
+use mathlib.Core.Path.{_∙_, ap}
 use lib.ListN.{getD}
 use Rattle.strip_tests.specs.PlainTests.{code, judge-is}
 use Rattle.search.specs.Held.{cellAt, stripAt}
 use borrow.Author.Needs.{needs}
 use Rattle.search.proofs.own.Statement.{statement}
 use Rattle.search.proofs.own.Tie as tie
-use Rattle.search.proofs.own.Reads as reads
-use Rattle.search.proofs.own.Lts as lts
-use Rattle.search.proofs.wide_at.Reads as wide-at-reads
-use Rattle.strip_tests.proofs.judge.Reads as judge-reads
 
 module _ (c : tie.Start) where
   x : Made (c .args .x) (c .args .x) 536870912
@@ -44,47 +40,36 @@ z4 c = called (c .wide-at5 .ensures) (c .before .before .before .before .before 
 z5 : (c : tie.After-wide-at6) → Made (c .wide-at6 .result) (getD (c .before .before .before .before .before .before .args .part .now) 5 (pos 0)) 134217728
 z5 c = called (c .wide-at6 .ensures) (c .before .before .before .before .before .before .pre .1 .y-sized .box-size) tt
 
--- src/lib.rt:18:18
 wide-at-requires : tie.Need-wide-at-requires
 wide-at-requires c κs = search needs
 
--- src/lib.rt:18:14
 sub-wx : tie.Need-sub-wx
 sub-wx c = (minus (x (c .before)) (z0 c) tt) .fits
 
--- src/lib.rt:19:18
 wide-at-requires-2 : tie.Need-wide-at-requires-2
 wide-at-requires-2 c κs = search needs
 
--- src/lib.rt:19:14
 sub-wy : tie.Need-sub-wy
 sub-wy c = (minus (y (c .before .before)) (z1 c) tt) .fits
 
--- src/lib.rt:20:9
 wide-at-requires-3 : tie.Need-wide-at-requires-3
 wide-at-requires-3 c κs = search needs
 
--- src/lib.rt:21:9
 wide-at-requires-4 : tie.Need-wide-at-requires-4
 wide-at-requires-4 c κs = search needs
 
--- src/lib.rt:22:13
 wide-at-requires-5 : tie.Need-wide-at-requires-5
 wide-at-requires-5 c κs = search needs
 
--- src/lib.rt:22:13
 add-a : tie.Need-add-a
 add-a c = (plus (z4 c) (s (c .before .before .before .before .before)) tt) .fits
 
--- src/lib.rt:23:13
 wide-at-requires-6 : tie.Need-wide-at-requires-6
 wide-at-requires-6 c κs = search needs
 
--- src/lib.rt:23:13
 add-b : tie.Need-add-b
 add-b c = (plus (z5 c) (s (c .before .before .before .before .before .before)) tt) .fits
 
--- src/lib.rt:24:5
 judge-requires : tie.Need-judge-requires
 judge-requires c κs =
     let d = c .before .before .before .before .before .before in
@@ -99,7 +84,6 @@ judge-requires c κs =
       node-reach = d .pre .2 .reach-sized;
     })
 
--- src/lib.rt:14:1
 returns : tie.Need-returns
 returns c = let d = (c .before .before .before .before .before .before .before) in (rw (back (minus (x (c .before .before .before .before .before .before .before)) (z0 (c .before .before .before .before .before .before)) tt), back (minus (y (c .before .before .before .before .before .before .before)) (z1 (c .before .before .before .before .before)) tt), back (z2 (c .before .before .before .before)), back (z3 (c .before .before .before)), back (plus (z4 (c .before .before)) (s (c .before .before .before .before .before .before .before)) tt), back (plus (z5 (c .before)) (s (c .before .before .before .before .before .before .before)) tt), back (r (c .before .before .before .before .before .before .before))) at (c .judge .ensures)) ∙ ap code (judge-is (d .args .r) (cellAt (d .args .x) (d .args .y) (d .args .s)) (stripAt (d .args .part .now)))
 

@@ -1,3 +1,4 @@
+-- `search::wide_at` meets its contract. Assumes nothing.
 use borrow.Author.Needs.{needs, sfits-of}
 use lib.ListN.{getD}
 use lib.IntN.{pos}

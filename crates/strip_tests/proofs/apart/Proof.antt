@@ -1,14 +1,9 @@
-use Rattle.integers.specs.Signed.{Made, called, sized, arg, arg-pos, lit, plus, times, minus, over, widen, back, test-lt, neg-abs, pos-abs, above-zero}
-use Rattle.strip_tests.proofs.Calls.{abs-of, excess-of, most-of, squares-is, low}
-use lib.IntN.{ℤ, pos, natAbs}
-use mathlib.Core.Path.{_≡_, _∙_, sym, ap}
-use mir.Facts.{toZ-ofZ}
+-- `strip_tests::apart` meets its contract. Assumes nothing.
+use Rattle.integers.specs.Signed.{Made, sized, arg, plus, times, back}
+use Rattle.strip_tests.proofs.Calls.{excess-of}
 use Rattle.strip_tests.specs.PlainTests.{excessBy}
 use Rattle.strip_tests.proofs.apart.Statement.{statement}
 use Rattle.strip_tests.proofs.apart.Tie as tie
-use Rattle.strip_tests.proofs.apart.Reads as reads
-use Rattle.strip_tests.proofs.apart.Lts as lts
-use Rattle.strip_tests.proofs.excess.Reads as excess-reads
 
 module _ (c : tie.Start) where
   ax : Made (c .args .ax) (c .args .ax) 1073741824
@@ -32,31 +27,24 @@ gx c = excess-of (ax (c .before)) (ex (c .before)) (c .excess .ensures) tt
 gy : (c : tie.After-excess2) → Made (c .excess2 .result) (excessBy (c .before .before .args .ay) (c .before .before .args .ey)) 1879048192
 gy c = excess-of (ay (c .before .before)) (ey (c .before .before)) (c .excess2 .ensures) tt
 
--- src/lib.rt:48:9
 excess-requires : tie.Need-excess-requires
 excess-requires c κs = (sized 1073741824 (ax c) tt, sized 1073741824 (ex c) tt)
 
--- src/lib.rt:49:9
 excess-requires-2 : tie.Need-excess-requires-2
 excess-requires-2 c κs = (sized 1073741824 (ay (c .before)) tt, sized 1073741824 (ey (c .before)) tt)
 
--- src/lib.rt:50:5
 mul-result : tie.Need-mul-result
 mul-result c = (times (r (c .before .before)) (r (c .before .before)) tt) .fits
 
--- src/lib.rt:50:13
 mul-result-2 : tie.Need-mul-result-2
 mul-result-2 c = (times (gx (c .before)) (gx (c .before)) tt) .fits
 
--- src/lib.rt:50:23
 mul-result-3 : tie.Need-mul-result-3
 mul-result-3 c = (times (gy c) (gy c) tt) .fits
 
--- src/lib.rt:50:13
 add-result : tie.Need-add-result
 add-result c = (plus (times (gx (c .before)) (gx (c .before)) tt) (times (gy c) (gy c) tt) tt) .fits
 
--- src/lib.rt:44:1
 returns : tie.Need-returns
 returns c = rw (back (times (r (c .before .before)) (r (c .before .before)) tt), back (plus (times (gx (c .before)) (gx (c .before)) tt) (times (gy c) (gy c) tt) tt))
 

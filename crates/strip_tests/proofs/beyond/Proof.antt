@@ -1,8 +1,7 @@
-use Rattle.integers.specs.Signed.{Made, called, sized, arg, arg-pos, lit, plus, times, minus, over, widen, back, test-lt, neg-abs, pos-abs, above-zero}
-use Rattle.strip_tests.proofs.Calls.{abs-of, excess-of, most-of, squares-is}
+-- `strip_tests::beyond` meets its contract. Assumes nothing.
+use Rattle.integers.specs.Signed.{Made, called, arg, arg-pos, lit, times, minus, over, back, test-lt, above-zero}
 use lib.IntN.{ℤ, pos, natAbs, _-ℤ_, _*ℤ_}
-use mathlib.Core.Path.{_≡_, _∙_, sym, ap}
-use mir.Facts.{toZ-ofZ}
+use mathlib.Core.Path.{_≡_, _∙_, ap}
 use Prim.Native.Nat.{ℕ}
 use lib.Signed.{ltZ, quotZ, pos-natAbs}
 use Rattle.model.specs.Roots.{root}
@@ -11,9 +10,6 @@ use Rattle.strip_tests.proofs.Roots.{Asked, asked, refused}
 use borrow.Author.Needs.{needs}
 use Rattle.strip_tests.proofs.beyond.Statement.{statement}
 use Rattle.strip_tests.proofs.beyond.Tie as tie
-use Rattle.strip_tests.proofs.beyond.Reads as reads
-use Rattle.strip_tests.proofs.beyond.Lts as lts
-use Rattle.strip_tests.proofs.cap.Reads as cap-reads
 
 module _ (c : tie.Start) where
   cross : Made (c .args .cross) (c .args .cross) 2305843009213693952
@@ -40,31 +36,24 @@ known c =
 k : (c : tie.After-cap) → Made (c .cap .result) (capBy (quotZ (c .before .before .args .cross -ℤ pos 1) (pos (natAbs (c .before .before .args .r))))) 1073741824
 k c = let s = c .before .before in called (rw (back (over (minus (cross s) (lit 1 tt) tt) (r s) tt)) at (c .cap .ensures)) (known (c .before) .size) tt
 
--- src/lib.rt:58:8
 mul-if1 : tie.Need-mul-if1
 mul-if1 c = (times (r c) (low c) tt) .fits
 
--- src/lib.rt:59:22
 sub-cap : tie.Need-sub-cap
 sub-cap c = (minus (cross (c .before)) (lit 1 tt) tt) .fits
 
--- src/lib.rt:59:21
 div-cap : tie.Need-div-cap
 div-cap c = let s = c .before in (above-zero (r s) (s .pre .cross-reach .r-above), (over (minus (cross s) (lit 1 tt) tt) (r s) tt) .fits)
 
--- src/lib.rt:59:13
 cap-requires : tie.Need-cap-requires
 cap-requires c κs = search needs
 
--- src/lib.rt:60:15
 mul-result : tie.Need-mul-result
 mul-result c = (times (k c) (k c) tt) .fits
 
--- src/lib.rt:54:1
 returns : tie.Need-returns
 returns c = let s = c .before .before in rw (back (pp s), back (times (k c) (k c) tt)) (known (c .before) .answer ∙ as-r s (root (natAbs (s .args .pp))))
 
--- src/lib.rt:54:1
 returns-2 : tie.Need-returns-2
 returns-2 c = let s = c .before in refused (s .args .cross) (natAbs (s .args .r)) (natAbs (s .args .pp)) (natAbs (s .args .low)) (s .pre .low-under) (test-lt (times (r s) (low s) tt) (cross s) (c .if1 .left)) ∙ as-r s (root (natAbs (s .args .pp)))
 

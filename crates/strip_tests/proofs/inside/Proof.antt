@@ -1,12 +1,7 @@
-use Rattle.integers.specs.Signed.{Made, called, sized, arg, arg-pos, lit, plus, times, minus, over, widen, back, test-lt, neg-abs, pos-abs, above-zero}
-use Rattle.strip_tests.proofs.Calls.{abs-of, excess-of, most-of, squares-is, low}
-use lib.IntN.{ℤ, pos, natAbs}
-use mathlib.Core.Path.{_≡_, _∙_, sym, ap}
-use mir.Facts.{toZ-ofZ}
+-- `strip_tests::inside` meets its contract. Assumes nothing.
+use Rattle.integers.specs.Signed.{Made, arg, plus, times, back}
 use Rattle.strip_tests.proofs.inside.Statement.{statement}
 use Rattle.strip_tests.proofs.inside.Tie as tie
-use Rattle.strip_tests.proofs.inside.Reads as reads
-use Rattle.strip_tests.proofs.inside.Lts as lts
 
 module _ (c : tie.Start) where
   ax : Made (c .args .ax) (c .args .ax) 1073741824
@@ -24,31 +19,24 @@ module _ (c : tie.Start) where
   r : Made (c .args .r) (c .args .r) 16777216
   r = arg (c .pre .span-reach) (c .fits .r)
 
--- src/lib.rt:39:14
 add-fx : tie.Need-add-fx
 add-fx c = (plus (ax c) (ex c) tt) .fits
 
--- src/lib.rt:40:14
 add-fy : tie.Need-add-fy
 add-fy c = (plus (ay c) (ey c) tt) .fits
 
--- src/lib.rt:41:5
 mul-result : tie.Need-mul-result
 mul-result c = (times (plus (ax c) (ex c) tt) (plus (ax c) (ex c) tt) tt) .fits
 
--- src/lib.rt:41:15
 mul-result-2 : tie.Need-mul-result-2
 mul-result-2 c = (times (plus (ay c) (ey c) tt) (plus (ay c) (ey c) tt) tt) .fits
 
--- src/lib.rt:41:5
 add-result : tie.Need-add-result
 add-result c = (plus (times (plus (ax c) (ex c) tt) (plus (ax c) (ex c) tt) tt) (times (plus (ay c) (ey c) tt) (plus (ay c) (ey c) tt) tt) tt) .fits
 
--- src/lib.rt:41:25
 mul-result-3 : tie.Need-mul-result-3
 mul-result-3 c = (times (r c) (r c) tt) .fits
 
--- src/lib.rt:35:1
 returns : tie.Need-returns
 returns c = rw (back (plus (times (plus (ax c) (ex c) tt) (plus (ax c) (ex c) tt) tt) (times (plus (ay c) (ey c) tt) (plus (ay c) (ey c) tt) tt) tt), back (times (r c) (r c) tt))
 

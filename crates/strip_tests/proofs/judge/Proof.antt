@@ -1,8 +1,8 @@
-use Rattle.integers.specs.Signed.{Made, called, sized, arg, arg-pos, lit, plus, times, minus, over, widen, back, test-lt, neg-abs, pos-abs, above-zero}
-use Rattle.strip_tests.proofs.Calls.{span-of, abs-of, excess-of, most-of, squares-is, low}
-use lib.IntN.{ℤ, pos, natAbs, _+ℤ_}
+-- `strip_tests::judge` meets its contract. Assumes nothing.
+use Rattle.integers.specs.Signed.{Made, sized, arg, plus, back}
+use Rattle.strip_tests.proofs.Calls.{span-of, abs-of}
+use lib.IntN.{ℤ, _+ℤ_}
 use mathlib.Core.Path.{_≡_, refl, _∙_, sym}
-use mir.Facts.{toZ-ofZ}
 use Rattle.integers.specs.Absolute.{absℤ}
 use mathlib.Core.Bool.{Bool, true, false, _||_}
 use Rattle.model.specs.Explore.{judge}
@@ -11,12 +11,6 @@ use Rattle.strip_tests.specs.PlainTests.{code, insideBy, apartBy, slante
 use borrow.Author.Needs.{needs}
 use Rattle.strip_tests.proofs.judge.Statement.{statement}
 use Rattle.strip_tests.proofs.judge.Tie as tie
-use Rattle.strip_tests.proofs.judge.Reads as reads
-use Rattle.strip_tests.proofs.judge.Lts as lts
-use Rattle.strip_tests.proofs.abs.Reads as abs-reads
-use Rattle.strip_tests.proofs.apart.Reads as apart-reads
-use Rattle.strip_tests.proofs.inside.Reads as inside-reads
-use Rattle.strip_tests.proofs.slanted.Reads as slanted-reads
 
 module _ (c : tie.Start) where
   wx : Made (c .args .wx) (c .args .wx) 1073741824
@@ -89,55 +83,42 @@ by-slanted i a s e f g = rw (e, f, g)
 by-none : (i a s : Bool) → i ≡ false → a ≡ false → s ≡ false → 1 ≡ code (judge i (a || s))
 by-none i a s e f g = rw (e, f, g)
 
--- src/lib.rt:81:9
 abs-requires : tie.Need-abs-requires
 abs-requires c κs = sized 4000000000000000000 (wx c) tt
 
--- src/lib.rt:82:9
 abs-requires-2 : tie.Need-abs-requires-2
 abs-requires-2 c κs = sized 4000000000000000000 (wy (c .before)) tt
 
--- src/lib.rt:83:14
 abs-requires-3 : tie.Need-abs-requires-3
 abs-requires-3 c κs = sized 4000000000000000000 (p (c .before .before)) tt
 
--- src/lib.rt:83:14
 add-ex : tie.Need-add-ex
 add-ex c = (plus (ap c) (a (c .before .before .before)) tt) .fits
 
--- src/lib.rt:84:14
 abs-requires-4 : tie.Need-abs-requires-4
 abs-requires-4 c κs = sized 4000000000000000000 (q (c .before .before .before)) tt
 
--- src/lib.rt:84:14
 add-ey : tie.Need-add-ey
 add-ey c = (plus (aq c) (b (c .before .before .before .before)) tt) .fits
 
--- src/lib.rt:85:8
 inside-requires : tie.Need-inside-requires
 inside-requires c κs = rw (back (ax (c .before .before .before)), back (ay (c .before .before)), back (plus (ap (c .before)) (a (c .before .before .before .before)) tt), back (plus (aq c) (b (c .before .before .before .before)) tt), back (r (c .before .before .before .before))) (span-of ((c .before .before .before .before) .pre))
 
--- src/lib.rt:86:9
 returns : tie.Need-returns
 returns c = by-inside _ _ (sym (inside-is (c .before)) ∙ c .if1 .taken)
 
--- src/lib.rt:88:8
 apart-requires : tie.Need-apart-requires
 apart-requires c κs = rw (back (ax (c .before .before .before .before .before)), back (ay (c .before .before .before .before)), back (plus (ap (c .before .before .before)) (a (c .before .before .before .before .before .before)) tt), back (plus (aq (c .before .before)) (b (c .before .before .before .before .before .before)) tt), back (r (c .before .before .before .before .before .before))) (span-of ((c .before .before .before .before .before .before) .pre))
 
--- src/lib.rt:89:9
 returns-2 : tie.Need-returns-2
 returns-2 c = by-apart _ _ _ (sym (inside-is (c .before .before .before)) ∙ c .before .before .if1 .left) (sym (apart-is (c .before)) ∙ c .if2 .taken)
 
--- src/lib.rt:91:8
 slanted-requires : tie.Need-slanted-requires
 slanted-requires c κs = search needs
 
--- src/lib.rt:77:1
 returns-3 : tie.Need-returns-3
 returns-3 c = by-slanted _ _ _ (sym (inside-is (c .before .before .before .before .before)) ∙ c .before .before .before .before .if1 .left) (sym (apart-is (c .before .before .before)) ∙ c .before .before .if2 .left) (sym (slanted-is (c .before)) ∙ c .if3 .taken)
 
--- src/lib.rt:77:1
 returns-4 : tie.Need-returns-4
 returns-4 c = by-none _ _ _ (sym (inside-is (c .before .before .before .before .before)) ∙ c .before .before .before .before .if1 .left) (sym (apart-is (c .before .before .before)) ∙ c .before .before .if2 .left) (sym (slanted-is (c .before)) ∙ c .if3 .left)
 

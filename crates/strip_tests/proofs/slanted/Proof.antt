@@ -1,21 +1,15 @@
+-- `strip_tests::slanted` meets its contract. Assumes nothing.
 use lib.Dec.{T}
 use lib.Signed.{nonNeg}
 use Rattle.model.specs.Explore.{squares}
-use Rattle.integers.specs.Signed.{Made, called, sized, arg, arg-pos, lit, plus, times, minus, over, widen, back, test-lt, neg-abs, pos-abs, above-zero}
-use Rattle.strip_tests.proofs.Calls.{abs-of, excess-of, most-of, squares-is, low}
-use lib.IntN.{ℤ, pos, natAbs, _-ℤ_, _*ℤ_}
-use mathlib.Core.Path.{_≡_, _∙_, sym}
-use mir.Facts.{toZ-ofZ}
+use Rattle.integers.specs.Signed.{Made, sized, arg, plus, times, minus, widen, back}
+use Rattle.strip_tests.proofs.Calls.{abs-of, most-of, squares-is, low}
+use lib.IntN.{ℤ, _-ℤ_, _*ℤ_}
 use Rattle.integers.specs.Absolute.{absℤ}
 use Rattle.strip_tests.specs.PlainTests.{mostBy}
 use borrow.Author.Needs.{needs}
 use Rattle.strip_tests.proofs.slanted.Statement.{statement}
 use Rattle.strip_tests.proofs.slanted.Tie as tie
-use Rattle.strip_tests.proofs.slanted.Reads as reads
-use Rattle.strip_tests.proofs.slanted.Lts as lts
-use Rattle.strip_tests.proofs.abs.Reads as abs-reads
-use Rattle.strip_tests.proofs.beyond.Reads as beyond-reads
-use Rattle.strip_tests.proofs.most.Reads as most-reads
 
 module _ (c : tie.Start) where
   wx : Made (c .args .wx) (c .args .wx) 1073741824
@@ -54,63 +48,48 @@ size c = abs-of (minus (times (wx (c .before .before .before)) (q (c .before .be
 least : (c : tie.After-most) → Made (c .most .result) (mostBy (absℤ (c .before .before .before .before .args .p)) (absℤ (c .before .before .before .before .args .q))) 536870912
 least c = most-of (ap (c .before .before .before)) (aq (c .before .before)) (c .most .ensures) tt
 
--- src/lib.rt:70:9
 abs-requires : tie.Need-abs-requires
 abs-requires c κs = sized 4000000000000000000 (p c) tt
 
--- src/lib.rt:71:9
 abs-requires-2 : tie.Need-abs-requires-2
 abs-requires-2 c κs = sized 4000000000000000000 (q (c .before)) tt
 
--- src/lib.rt:72:21
 mul-abs : tie.Need-mul-abs
 mul-abs c = let s = c .before .before in (times (wx s) (q s) tt) .fits
 
--- src/lib.rt:72:30
 mul-abs-2 : tie.Need-mul-abs-2
 mul-abs-2 c = let s = c .before .before in (times (wy s) (p s) tt) .fits
 
--- src/lib.rt:72:21
 sub-abs : tie.Need-sub-abs
 sub-abs c = (minus (times (wx (c .before .before)) (q (c .before .before)) tt) (times (wy (c .before .before)) (p (c .before .before)) tt) tt) .fits
 
--- src/lib.rt:72:17
 abs-requires-3 : tie.Need-abs-requires-3
 abs-requires-3 c κs = sized 4000000000000000000 (minus (times (wx (c .before .before)) (q (c .before .before)) tt) (times (wy (c .before .before)) (p (c .before .before)) tt) tt) tt
 
--- src/lib.rt:72:40
 mul-cross : tie.Need-mul-cross
 mul-cross c = (times (a (c .before .before .before)) (aq (c .before)) tt) .fits
 
--- src/lib.rt:72:17
 sub-cross : tie.Need-sub-cross
 sub-cross c = (minus (size c) (times (a (c .before .before .before)) (aq (c .before)) tt) tt) .fits
 
--- src/lib.rt:72:49
 mul-cross-2 : tie.Need-mul-cross-2
 mul-cross-2 c = (times (b (c .before .before .before)) (ap (c .before .before)) tt) .fits
 
--- src/lib.rt:72:17
 sub-cross-2 : tie.Need-sub-cross-2
 sub-cross-2 c = (minus (minus (size c) (times (a (c .before .before .before)) (aq (c .before)) tt) tt) (times (b (c .before .before .before)) (ap (c .before .before)) tt) tt) .fits
 
--- src/lib.rt:73:22
 most-requires : tie.Need-most-requires
 most-requires c κs = search needs
 
--- src/lib.rt:73:36
 mul-beyond : tie.Need-mul-beyond
 mul-beyond c = (times (p (c .before .before .before .before)) (p (c .before .before .before .before)) tt) .fits
 
--- src/lib.rt:73:44
 mul-beyond-2 : tie.Need-mul-beyond-2
 mul-beyond-2 c = (times (q (c .before .before .before .before)) (q (c .before .before .before .before)) tt) .fits
 
--- src/lib.rt:73:36
 add-beyond : tie.Need-add-beyond
 add-beyond c = (plus (times (p (c .before .before .before .before)) (p (c .before .before .before .before)) tt) (times (q (c .before .before .before .before)) (q (c .before .before .before .before)) tt) tt) .fits
 
--- src/lib.rt:73:5
 beyond-requires : tie.Need-beyond-requires
 beyond-requires c κs =
     let s = c .before .before .before .before in
@@ -126,7 +105,6 @@ beyond-requires c κs =
       low-under = l .is-low;
     })
 
--- src/lib.rt:66:1
 returns : tie.Need-returns
 returns c = let s = c .before .before .before .before .before in rw (back (minus (minus (size (c .before .before)) (times (a (c .before .before .before .before .before)) (aq (c .before .before .before)) tt) tt) (times (b (c .before .before .before .before .before)) (ap (c .before .before .before .before)) tt) tt), back (r s), back (plus (times (p s) (p s) tt) (times (q s) (q s) tt) tt)) at (c .beyond .ensures)
 
