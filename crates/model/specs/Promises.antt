@@ -7,6 +7,7 @@ use mathlib.Core.List.{List, _++_}
 use Prim.Native.Nat.{ℕ, _+_, _*_, _≤_, _<_}
 use lib.IntN.{ℤ, pos}
 use lib.ListN.{length, getD, take}
+use Rattle.integers.specs.Order.{num⁺}
 use Rattle.model.specs.declared.Job.{Job}
 use Rattle.model.specs.declared.Read.{Read}
 use Rattle.model.specs.Jobs.{outline, cellLog, judge}
@@ -14,7 +15,7 @@ use Rattle.model.specs.Bytes.{bytes}
 use Rattle.model.specs.Sheets.{sheetOf}
 use Rattle.model.specs.Trees.{anyLong}
 use Rattle.model.specs.Store.{forest}
-use Rattle.model.specs.Fractions.{Frac, Point, dist², _≤ᶠ_}
+use Rattle.model.specs.Fractions.{Frac, whole, Point, dist², _≤ᶠ_}
 use Rattle.model.specs.Plates.{Verdict, letter, columns, mapOf}
 use Rattle.model.specs.Exact.{Points, Outline, CellPoint, Exact, Demand3}
 use Rattle.model.specs.Distance.{lo, hi}
@@ -58,10 +59,17 @@ DemandThree = (j : Job) → judge j ≡ 0 → anyLong (forest j) ≡ false → M
 abbrev pub ExactUnique : Type 1
 ExactUnique = (O C : Points) (R : ℤ) (Q : Point) → C Q → (v w : Verdict) → Exact O C R v → Exact O C R w → v ≡ w
 
--- ---- the bounds of a point's distance are bounds of the outline's: z is a squared length in fine units
+-- ---- the bounds of a point's distance are bounds of the outline's: no outline point is nearer to Q than the root of `lo`, and some is no
+-- farther than the root of `hi`, both squared lengths in fine units
 abbrev pub fine² : ℤ → Frac
-fine² z = record { top = z; low = pos 256; up = Rattle.integers.specs.Order.num⁺ 255 }
+fine² z = record { top = z; low = pos 256; up = num⁺ 255 }
 
-pub record Bounds (j : Job) (Q : Point) (x y : ℤ) : Type 0 where
-  pub none-nearer : (P : Point) → Outline (outline j) P → fine² (lo (forest j) x y) ≤ᶠ dist² P Q
-  pub some-near : (P : Point) × Outline (outline j) P × (dist² P Q ≤ᶠ fine² (hi (forest j) x y))
+abbrev pub wholePoint : ℤ → ℤ → Point
+wholePoint x y = record { x = whole x; y = whole y }
+
+pub record Bounds (j : Job) (Q : Point) (lo hi : ℤ) : Type 0 where
+  pub none-nearer : (P : Point) → Outline (outline j) P → fine² lo ≤ᶠ dist² P Q
+  pub some-near : (P : Point) × Outline (outline j) P × (dist² P Q ≤ᶠ fine² hi)
+
+abbrev pub PointBounds : Type 0
+PointBounds = (j : Job) → judge j ≡ 0 → (x y : ℤ) → Bounds j (wholePoint x y) (lo (forest j) x y) (hi (forest j) x y)

@@ -21,7 +21,7 @@ use Rattle.model.specs.Fractions.{whole, Point, dist²}
 use Rattle.model.specs.Explore.{closest², farthest²}
 use Rattle.model.specs.Exact.{Points}
 use Rattle.model.specs.Distance.{spot, leaves, leavesAll, least, lo, hi, Some}
-use Rattle.model.specs.Promises.{Bounds}
+use Rattle.model.specs.Promises.{Bounds, wholePoint, PointBounds}
 use Rattle.enclosure.specs.Covers.{In, Covers, at-leaf, at-long, at-node, CoversAll, at-end, at-cons}
 use Rattle.verdicts.specs.Answers.{lt-true, lt-false}
 use Rattle.verdicts.specs.Apart.{InCell}
@@ -150,10 +150,7 @@ forest-first j k e =
     (ap (λ n. trees (j .grain) (edgesFrom (j .places) n 0)) e)
 
 -- ---- the point itself
-abbrev pub asked : ℤ → ℤ → Point
-asked x y = record { x = whole x; y = whole y }
-
-itself : (x y : ℤ) → InCell (spot x y) (asked x y)
+itself : (x y : ℤ) → InCell (spot x y) (wholePoint x y)
 itself x y = record { inX = still x; inY = still y }
   where
     still : (x : ℤ) → Within (pos 16 *ℤ x -ℤ pos 16 *ℤ x *ℤ pos 1) (pos 0 *ℤ pos 1)
@@ -174,17 +171,20 @@ module _ (j : Job) (ok : judge j ≡ 0) (x y : ℤ) where
   counted zero e h = absurd (omega arith)
   counted (suc k) e h = forest-first j k e
 
-  pub point-bounds : Bounds j (asked x y) x y
-  point-bounds = record {
+  bounds : Bounds j (wholePoint x y) (lo (forest j) x y) (hi (forest j) x y)
+  bounds = record {
     none-nearer = λ P a.
         let l = least-below (closest² (spot x y)) (λ s. In s P) (leavesAll (forest j)) (leaf-of-all (forest-covers j) P a) in
-        lower (lo (forest j) x y) (closest² (spot x y) (l .0)) (dist² P (asked x y) .low) (dist² P (asked x y) .top) (dist² P (asked x y) .up) (l .2)
-        (at-least-closest (pos 0) (spot x y) (l .0) P (asked x y) (l .1) (itself x y));
+        lower (lo (forest j) x y) (closest² (spot x y) (l .0)) (dist² P (wholePoint x y) .low) (dist² P (wholePoint x y) .top) (dist² P (wholePoint x y) .up) (l .2)
+        (at-least-closest (pos 0) (spot x y) (l .0) P (wholePoint x y) (l .1) (itself x y));
     some-near =
         let m = point-of-all (λ s. farthest² (spot x y) s ≡ hi (forest j) x y) (forest-covers j) (near-leaf (counted (j .count) refl (legal j ok .some))) in (
           m .point,
           m .member,
-          subst (λ z. dist² (m .point) (asked x y) .top *ℤ pos 256 ≼ z *ℤ dist² (m .point) (asked x y) .low) (m .has)
-              (at-most-farthest (pos 0) (spot x y) (m .strip) (m .point) (asked x y) (m .lies) (itself x y)),
+          subst (λ z. dist² (m .point) (wholePoint x y) .top *ℤ pos 256 ≼ z *ℤ dist² (m .point) (wholePoint x y) .low) (m .has)
+              (at-most-farthest (pos 0) (spot x y) (m .strip) (m .point) (wholePoint x y) (m .lies) (itself x y)),
         );
   }
+
+pub point-bounds : PointBounds
+point-bounds j ok x y = bounds j ok x y

@@ -1,0 +1,35 @@
+// The library's face: four entries and nothing else. None asks anything of its caller; each has, for every argument, one permitted answer and
+// one permitted state of the memory lent, those that the definitions of `model` give. Document 01, "What the promises must say".
+use model::Job;
+use model::Map;
+use model::Read;
+use model::Written;
+ghost use mathlib.Core.Path.{_≡_};
+ghost use Rattle.model.specs.Entries as entries;
+ghost use Rattle.model.specs.Promises.{MapHolds};
+
+// Reads a job sheet: the job, or the refusal 1, 2, 3 or 4 and a job of zeros.
+pub fn read(sheet: &[u8]) -> Read
+    ensures answer { λ r. ⌜ r ≡ entries.read (now (sheet .entry)) ⌝ }
+{
+    reading::read(sheet)
+}
+
+// Writes a job's sheet at the front of `out`: how many bytes, or the refusal 2, 3, 4 or 7, with `out` as it was.
+pub fn write(job: Job, out: &mut [u8]) -> Written
+    ensures answer { λ r. ⌜ r ≡ entries.write job (now (out .entry)) ⌝ }
+    ensures lent { λ _. ⌜ now (out .exit) ≡ entries.writeLeaves job (now (out .entry)) ⌝ }
+{
+    writing::write(job, out)
+}
+
+// Draws a job's map at the front of `cells`, with its trees at the front of `store`: how many nodes they have, or the refusal 2 to 7, with both
+// as they were. Of an accepted call's map demand 3 holds: see `MapHolds`.
+pub fn map(job: Job, store: &mut [i32], cells: &mut [u8]) -> Map
+    ensures answer { λ r. ⌜ r ≡ entries.map job (now (store .entry)) (now (cells .entry)) ⌝ }
+    ensures trees { λ _. ⌜ now (store .exit) ≡ entries.mapStore job (now (store .entry)) (now (cells .entry)) ⌝ }
+    ensures letters { λ _. ⌜ now (cells .exit) ≡ entries.mapCells job (now (store .entry)) (now (cells .entry)) ⌝ }
+    ensures demand3 { λ r. ⌜ (r .refusal ≡ 0 → MapHolds job (now (cells .exit))) ⌝ }
+{
+    mapping::map(job, store, cells)
+}
