@@ -1,0 +1,127 @@
+-- The needs of the writers of a map's text, over plain variables. Assumes nothing.
+use mathlib.Core.Path.{_≡_, refl, sym, ap, ap₂, _∙_, subst}
+use mathlib.Core.List.{List, [], _∷_, _++_, append-assoc, append-nil}
+use Prim.Native.Nat.{ℕ, zero, suc, _+_, _*_, _-_, _^_, _≤_, _<_}
+use native.Mathlib.Nat.{mul-le-mul, mul-le-mul-right}
+use native.Mathlib.Numerals.{add-one}
+use native.Mathlib.Omega.{arith}
+use lib.Dec.{lit<}
+use lib.IntN.{ℤ, pos, natAbs}
+use lib.ListN.{length, getD, set, take, drop, length-append, length-drop}
+use lib.Seq.{paste, paste-suc, paste-zero, take-all, take-paste, drop-paste, drop-drop, length-take-le}
+use mir.Syntax.{w32}
+use mir.Val.{toZ, ofZ}
+use mir.Facts.{toZ-pos}
+use borrow.Rule.Slice.PartMut.{midOf}
+use Rattle.model.specs.Bytes.{bytes}
+use Rattle.model.specs.Forms.{writeForm}
+use Rattle.model.specs.Printing.{refusedForm, mapForm, rowText, rowsText}
+use Rattle.sheet_text.specs.Numbers.{Small}
+use Rattle.sheet_text.specs.Forms.{AllSmall}
+use Rattle.printing.specs.Puts.{Put}
+use Rattle.printing.proofs.Numbers.{put-then, put-none}
+
+-- ---- a number up to 256
+pub number-read : (n : ℕ) → n ≤ 256 → toZ w32 n ≡ pos n
+number-read n h = toZ-pos w32 (omega arith)
+
+pub one-small : (n : ℕ) (v : ℤ) → n ≤ 256 → v ≡ pos n → AllSmall (v ∷ [])
+unfolding AllSmall Small
+one-small n v h e zero = rw e (omega arith)
+one-small n v h e (suc i) = lit< tt
+
+-- ---- bytes copied
+pub copied : (d s out : List ℕ) (at i : ℕ) → out ≡ paste d at s i → at + length s ≤ length d → i < length s → set out (at + i) (getD s i 0) ≡ paste d at s (i + 1)
+copied d s out at i e h k = rw (e, add-one i) (paste-suc d at s i 0 (omega arith) k)
+
+pub all-copied : (d s out : List ℕ) (at i : ℕ) → out ≡ paste d at s i → at + length s ≤ length d → i ≤ length s → length s ≤ i → Put d out at (at + i) s
+all-copied d s out at i e h k l =
+    let z : i ≡ length s = omega arith in
+    record {
+      next-is = ap (λ n. at + n) z;
+      wrote = ap (take (at + i)) e ∙ take-paste d at s i (omega arith) k ∙ ap (λ u. take at d ++ u) (take-all i s l);
+      rest = ap (drop (at + i)) e ∙ drop-paste d at s i (omega arith) k;
+    }
+
+-- ---- a row
+pub row-put : (a b c d : List ℕ) (at i k next : ℕ) (row : List ℕ) → Put a b at i (bytes "(row ") → Put b c i k row → Put c d k next (bytes ")\n") → Put a d at next (rowText row)
+unfolding rowText
+row-put a b c d at i k next row p q r =
+    subst (Put a d at next) (append-assoc (bytes "(row ") row (bytes ")\n"))
+    (put-then a c d at k next (bytes "(row " ++ row) (bytes ")\n") (put-then a b c at i k (bytes "(row ") row p q) r)
+
+row-long : (row : List ℕ) → length (rowText row) ≡ length row + 7
+unfolding rowText
+row-long row = omega (arith, length-append row (bytes ")\n"))
+
+-- ---- rows, one after the other
+rows-snoc : (n k : ℕ) (cs : List ℕ) → rowsText n (suc k) cs ≡ rowsText n k cs ++ rowText (take n (drop (k * n) cs))
+unfolding rowsText
+rows-snoc n zero cs = append-nil (rowText (take n cs)) ∙ ap (λ m. rowText (take n (drop m cs))) (let z : 0 ≡ 0 * n = omega arith in z)
+rows-snoc n (suc k) cs =
+    ap (λ t. rowText (take n cs) ++ t) (rows-snoc n k (drop n cs))
+    ∙ sym (append-assoc (rowText (take n cs)) (rowsText n k (drop n cs)) (rowText (take n (drop (k * n) (drop n cs)))))
+    ∙ ap (λ t. (rowText (take n cs) ++ rowsText n k (drop n cs)) ++ rowText (take n t)) (drop-drop (k * n) n cs ∙ ap (λ m. drop m cs) (let z : n + k * n ≡ suc k * n = omega arith in z))
+
+-- the rows from `from` up to j are written
+pub record Rows (before after : List ℕ) (at i : ℕ) (cells : List ℕ) (n from j : ℕ) : Type 0 where
+  pub placed : Put before after at i (rowsText n (j - from) (drop (from * n) cells))
+  pub here : i ≡ at + (j - from) * (n + 7)
+  pub same-length : length after ≡ length before
+  pub started : from ≤ j
+
+pub no-rows : (out cells : List ℕ) (at n from : ℕ) → Rows out out at at cells n from from
+no-rows out cells at n from = record {
+  placed = let z : 0 ≡ from - from = omega arith in subst (λ k. Put out out at at (rowsText n k (drop (from * n) cells))) z (unfold rowsText in put-none out at);
+  here = let z : from - from ≡ 0 = omega arith in rw z (omega arith);
+  same-length = refl;
+  started = omega arith;
+}
+
+in-cells : (n j to : ℕ) → j < to → to ≤ n → j * n + n ≤ n * n
+in-cells n j to h k = let l : suc j ≤ n = omega arith in omega (arith, mul-le-mul-right n l)
+
+more : (n from j : ℕ) → from ≤ j → j + 1 - from ≡ suc (j - from)
+more n from j h = omega arith
+
+-- places in a map of 256 cells a side at the most
+pub few-cells : (n j to : ℕ) → n ≤ 256 → j < to → to ≤ n → j * n + n ≤ 65536
+few-cells n j to h k l = omega (arith, in-cells n j to k l, mul-le-mul h h)
+
+pub row-fits : (at n from j to i room : ℕ) → i ≡ at + (j - from) * (n + 7) → from ≤ j → j < to → at + (to - from) * (n + 7) ≤ room → i + n + 7 ≤ room
+row-fits at n from j to i room e f l h = let m : suc (j - from) ≤ to - from = omega arith in omega (arith, mul-le-mul-right (n + 7) m)
+
+module _ (cells : List ℕ) (n j to : ℕ) (jt : j < to) (tn : to ≤ n) (room : n * n ≤ length cells) where
+  pub part-end : j * n + n ≤ length cells
+  part-end = omega (arith, in-cells n j to jt tn)
+
+  pub row-length : length (take n (drop (j * n) cells)) ≡ n
+  row-length = length-take-le n (drop (j * n) cells) (rw length-drop (omega (arith, part-end)))
+
+module _ (before after : List ℕ) (at i : ℕ) (cells : List ℕ) (n from j to : ℕ) (r : Rows before after at i cells n from j) (jt : j < to) (tn : to ≤ n) (room : n * n ≤ length cells) where
+  pub next-row : (last : List ℕ) (k : ℕ) (row : List ℕ) → Put after last i k (rowText row) → length last ≡ length after → row ≡ take n (drop (j * n) cells) → Rows before last at k cells n from (j + 1)
+  next-row last k row p l e =
+      let rest : take n (drop ((j - from) * n) (drop (from * n) cells)) ≡ take n (drop (j * n) cells) = ap (take n) (drop-drop ((j - from) * n) (from * n) cells ∙ ap (λ m. drop m cells) (across from j n (r .started))) in
+      let t : rowsText n (j - from) (drop (from * n) cells) ++ rowText row ≡ rowsText n (j + 1 - from) (drop (from * n) cells) =
+      ap (λ u. rowsText n (j - from) (drop (from * n) cells) ++ rowText u) (e ∙ sym rest) ∙ sym (rows-snoc n (j - from) (drop (from * n) cells)) ∙ ap (λ m. rowsText n m (drop (from * n) cells)) (sym (more n from j (r .started))) in
+      let long : length row ≡ n = ap length e ∙ row-length cells n j to jt tn room in
+      record {
+        placed = subst (Put before last at k) t (put-then before after last at i k (rowsText n (j - from) (drop (from * n) cells)) (rowText row) (r .placed) p);
+        here = p .next-is ∙ rw (row-long row, long, more n from j (r .started)) (omega (arith, r .here));
+        same-length = l ∙ r .same-length;
+        started = omega (arith, r .started);
+      }
+    where
+      across : (from j n : ℕ) → from ≤ j → from * n + (j - from) * n ≡ j * n
+      across from j n h = go from (j - from) j (omega arith)
+        where
+          go : (a b c : ℕ) → a + b ≡ c → a * n + b * n ≡ c * n
+          go a b c e = rw (← e) (omega arith)
+
+-- ---- a form with one number
+pub form-put : (F a b : List ℕ) (at r n : ℕ) (v : ℤ) → Put a b at r (writeForm F (v ∷ [])) → v ≡ pos n → Put a b at r (writeForm F (pos n ∷ []))
+form-put F a b at r n v p e = subst (λ u. Put a b at r (writeForm F (u ∷ []))) e p
+
+-- the part of a row
+pub row-part : (cells : List ℕ) (a n : ℕ) → take (a + n - a) (drop a cells) ≡ take n (drop a cells)
+row-part cells a n = let z : a + n - a ≡ n = omega arith in rw z

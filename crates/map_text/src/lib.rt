@@ -1,0 +1,82 @@
+// What the program prints, written into lent bytes: the line of a refusal, a map's first line, its rows and its end. Each writer takes a position
+// and gives the position after what it wrote. Document 01, "The job sheet".
+ghost use mathlib.Core.Path.{_≡_};
+ghost use mathlib.Core.List.{[], _∷_};
+ghost use Prim.Native.Nat.{_+_, _*_, _-_, _≤_, _<_};
+ghost use lib.IntN.{pos};
+ghost use lib.ListN.{length, drop};
+ghost use Rattle.model.specs.Bytes.{bytes};
+ghost use Rattle.model.specs.Forms.{writeForm};
+ghost use Rattle.model.specs.Printing.{refusedForm, mapForm, rowText, rowsText};
+ghost use Rattle.printing.specs.Puts.{Put};
+
+fn number(n: usize) -> i32
+    requires { ⌜ n ≤ 256 ⌝ }
+    ensures same { λ r. ⌜ r ≡ pos n ⌝ }
+{
+    n as i32
+}
+
+pub fn put_refusal(out: &mut [u8], at: usize, refusal: usize) -> usize
+    requires { ⌜ (refusal ≤ 256) × (at + 19 ≤ length (now out)) ⌝ }
+    ensures wrote { λ r. ⌜ Put (now (out .entry)) (now (out .exit)) at r (writeForm refusedForm (pos refusal ∷ [])) ⌝ }
+    ensures bound { λ r. ⌜ r ≤ at + 19 ⌝ }
+{
+    let values = [number(refusal)];
+    printing::put_form(out, at, b"(refused #)\n", &values, 0)
+}
+
+// The first line of a map of n cells a side.
+pub fn put_head(out: &mut [u8], at: usize, n: usize) -> usize
+    requires { ⌜ (n ≤ 256) × (at + 14 ≤ length (now out)) ⌝ }
+    ensures wrote { λ r. ⌜ Put (now (out .entry)) (now (out .exit)) at r (writeForm mapForm (pos n ∷ [])) ⌝ }
+    ensures bound { λ r. ⌜ r ≤ at + 14 ⌝ }
+{
+    let values = [number(n)];
+    printing::put_form(out, at, b"(map #\n", &values, 0)
+}
+
+fn put_bytes(out: &mut [u8], at: usize, text: &[u8]) -> usize
+    requires { ⌜ at + length (now text) ≤ length (now out) ⌝ }
+    ensures wrote { λ r. ⌜ Put (now (out .entry)) (now (out .exit)) at r (now (text .entry)) ⌝ }
+{
+    let mut i: usize = 0;
+    while i < text.len() {
+        out[at + i] = text[i];
+        i += 1;
+    }
+    at + i
+}
+
+fn put_row(out: &mut [u8], at: usize, row: &[u8]) -> usize
+    requires { ⌜ at + length (now row) + 7 ≤ length (now out) ⌝ }
+    ensures wrote { λ r. ⌜ Put (now (out .entry)) (now (out .exit)) at r (rowText (now (row .entry))) ⌝ }
+{
+    let a = put_bytes(out, at, b"(row ");
+    let b = put_bytes(out, a, row);
+    put_bytes(out, b, b")\n")
+}
+
+// The lines of rows `from` to `to` - 1 of a map of n cells a side.
+pub fn put_rows(out: &mut [u8], at: usize, cells: &[u8], n: usize, from: usize, to: usize) -> usize
+    requires { ⌜ (n ≤ 256) × (from ≤ to) × (to ≤ n) × (n * n ≤ length (now cells)) × (at + (to - from) * (n + 7) ≤ length (now out)) ⌝ }
+    ensures wrote { λ r. ⌜ Put (now (out .entry)) (now (out .exit)) at r (rowsText n (to - from) (drop (from * n) (now (cells .entry)))) ⌝ }
+    ensures bound { λ r. ⌜ r ≡ at + (to - from) * (n + 7) ⌝ }
+{
+    let mut i = at;
+    let mut j = from;
+    while j < to {
+        let a = j * n;
+        let e = a + n;
+        i = put_row(out, i, &cells[a..e]);
+        j += 1;
+    }
+    i
+}
+
+pub fn put_end(out: &mut [u8], at: usize) -> usize
+    requires { ⌜ at + 2 ≤ length (now out) ⌝ }
+    ensures wrote { λ r. ⌜ Put (now (out .entry)) (now (out .exit)) at r (bytes ")\n") ⌝ }
+{
+    put_bytes(out, at, b")\n")
+}
