@@ -51,17 +51,16 @@ module _ (j : Job) (ok : judge j ≡ 0) (p : Placing) (h : Places p j) where
   pub few-levels : p .n - p .m ≤ 20
   few-levels = omega (arith, h .n-is, h .m-is, job-numbers j ok .few)
 
-  side-few : (k : ℕ) → k ≤ 8 → 2 ^ k ≤ 256
-  side-few k l = pow-le-pow-right {n = 2} (lit< tt) {i = k} {j = 8} l
-
-  pub cells-fit-word : (v : ℕ) → v ≡ 2 ^ (p .n - p .m) → Fits w64 (v * v)
-  cells-fit-word v e =
+  pub side-few : (v : ℕ) → v ≡ 2 ^ (p .n - p .m) → v ≤ 256
+  side-few v e =
       let k : p .n - p .m ≤ 8 = omega (arith, h .n-is, h .m-is, job-numbers j ok .few) in
-      let l : v ≤ 256 = rw e (side-few (p .n - p .m) k) in
-      record { fits = omega (arith, mul-le-mul l l) }
+      rw e (pow-le-pow-right {n = 2} (lit< tt) {i = p .n - p .m} {j = 8} k)
 
-  pub cells-are : (v : ℕ) → v ≡ 2 ^ (p .n - p .m) → v * v ≡ cellsOf j
-  cells-are v e = ap (λ u. u * u) (e ∙ ap₂ (λ a b. 2 ^ (a - b)) (h .n-is) (h .m-is))
+  pub side-is : (v : ℕ) → v ≡ 2 ^ (p .n - p .m) → v ≡ columns j
+  side-is v e = e ∙ ap₂ (λ a b. 2 ^ (a - b)) (h .n-is) (h .m-is)
+
+pub cells-fit-word : (v : ℕ) → v ≤ 256 → Fits w64 (v * v)
+cells-fit-word v l = record { fits = omega (arith, mul-le-mul l l) }
 
 -- ---- the checks
 -- what counting gives at a grain
@@ -95,14 +94,18 @@ module _ (j : Job) (numbers room : ℕ) (r : Checked) where
       pub refused-store : numbers < 7 * n → (r .refusal ≡ 6) × (r .nodes ≡ 0) → Told
       refused-store l w = refused-by 6 (λ u. omega arith) (λ s c g h. map-store j s c judged (kept .0) (omega (arith, kept .1, g))) (w .0)
 
-      module _ (fits : 7 * n ≤ numbers) (v : ℕ) (cells : v ≡ cellsOf j) where
-        pub refused-space : room < v → (r .refusal ≡ 7) × (r .nodes ≡ 0) → Told
+      module _ (fits : 7 * n ≤ numbers) (v : ℕ) (side : v ≡ columns j) where
+        cells : v * v ≡ cellsOf j
+        cells = ap (λ u. u * u) side
+
+        pub refused-space : room < v * v → (r .refusal ≡ 7) × (r .nodes ≡ 0) → Told
         refused-space l w = refused-by 7 (λ u. omega arith) (λ s c g h. map-space j s c judged (kept .0) (omega (arith, kept .1, g)) (omega (arith, cells, h))) (w .0)
 
 -- the last: everything passed
-pub all-passed : (j : Job) (numbers room k n v : ℕ) → k ≡ judge j → k ≡ 0 → mag (j .grain) < 2 ^ 31 → n ≡ countedBy j (toZ w32 (ofZ w32 (j .grain))) → (n ≡ 0 → ⊥) → 7 * n ≤ numbers → v ≡ cellsOf j → v ≤ room → Refuses j numbers room 0 × (_≡_ {A = ℕ} 0 0 → Passed j numbers room n)
-all-passed j numbers room k n v e z g b some fits cells l =
+pub all-passed : (j : Job) (numbers room k n v : ℕ) → k ≡ judge j → k ≡ 0 → mag (j .grain) < 2 ^ 31 → n ≡ countedBy j (toZ w32 (ofZ w32 (j .grain))) → (n ≡ 0 → ⊥) → 7 * n ≤ numbers → v ≡ columns j → v * v ≤ room → Refuses j numbers room 0 × (_≡_ {A = ℕ} 0 0 → Passed j numbers room n)
+all-passed j numbers room k n v e z g b some fits side l =
     let ok = sym e ∙ z in
+    let cells : v * v ≡ cellsOf j = ap (λ u. u * u) side in
     let f : n ≡ countedBy j (j .grain) = b ∙ ap (countedBy j) (read32 (j .grain) g) in
     let w = some-short j ok n f some in (
       record { given = λ s c g h. map-passed j s c ok (w .0) (omega (arith, w .1, g)) (omega (arith, cells, h)) },

@@ -2,15 +2,14 @@
 use model::Job;
 use model::Map;
 ghost use mathlib.Core.Path.{_≡_};
-ghost use mathlib.Core.Bool.{false};
-ghost use Prim.Native.Nat.{_*_, _≤_};
+ghost use Prim.Native.Nat.{_≤_};
 ghost use lib.Dec.{T};
 ghost use lib.IntN.{natAbs};
 ghost use lib.Signed.{nonNeg};
 ghost use lib.ListN.{length};
 ghost use Rattle.model.specs.Jobs as jobs;
-ghost use Rattle.model.specs.Store.{nodesOf, storeOf};
-ghost use Rattle.model.specs.Plates.{cellsOf, mapOf};
+ghost use Rattle.model.specs.Store.{storeOf};
+ghost use Rattle.model.specs.Plates.{columns, mapOf};
 ghost use Rattle.model.specs.Entries as entries;
 ghost use Rattle.mapping.specs.Checks.{Passed, Refuses};
 ghost use Rattle.mapping.specs.Placed.{Places};
@@ -49,14 +48,25 @@ fn placing_of(job: Job) -> Placing
     Placing { x, y, n, m, reach }
 }
 
-// The cells of a legal job's map.
-fn cells_of(job: Job) -> usize
+// The cells a side of a legal job's map.
+fn side_of(job: Job) -> usize
     requires { ⌜ jobs.judge job ≡ 0 ⌝ }
-    ensures cells { λ r. ⌜ r ≡ cellsOf job ⌝ }
+    ensures side { λ r. ⌜ r ≡ columns job ⌝ }
+    ensures few { λ r. ⌜ r ≤ 256 ⌝ }
 {
     let at = placing_of(job);
-    let side = drawing::power_of_two(at.n - at.m);
-    side * side
+    drawing::power_of_two(at.n - at.m)
+}
+
+// The cells a side of a job's map, or 0 where the job is refused by itself.
+pub fn cells_a_side(job: Job) -> usize
+    ensures side { λ r. ⌜ (jobs.judge job ≡ 0 → r ≡ columns job) ⌝ }
+    ensures few { λ r. ⌜ r ≤ 256 ⌝ }
+{
+    if judging::judge(job) != 0 {
+        return 0;
+    }
+    side_of(job)
 }
 
 // The refusal's number, and where it is 0, the nodes of the job's trees.
@@ -88,8 +98,8 @@ fn go_through(job: Job, numbers: usize, room: usize) -> Checked
     if numbers < 7 * nodes {
         return refused(6);
     }
-    let cells = cells_of(job);
-    if room < cells {
+    let side = side_of(job);
+    if room < side * side {
         return refused(7);
     }
     Checked { refusal: 0, nodes }
