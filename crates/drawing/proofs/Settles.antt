@@ -4,26 +4,21 @@ use mathlib.Core.List.{List}
 use Prim.Native.Nat.{ℕ, _+_, _≤_, _<_}
 use native.Mathlib.Omega.{arith}
 use lib.Dec.{T}
-use lib.IntN.{ℤ, pos, negsuc}
 use lib.Signed.{nonNeg}
-use Rattle.integers.specs.Order.{_≼_, num}
 use Rattle.model.specs.Trees.{Tree}
 use Rattle.model.specs.Explore.{Answer, inside, away, maybe, exploreAll}
 use Rattle.model.specs.Plates.{doubtful, letter, settled}
 use Rattle.inheritance.specs.Parts.{PartOf}
 use Rattle.inheritance.specs.Edges.{EachInherits, opened, leave-out, part-settled}
 use Rattle.inheritance.specs.Blocks.{block, block-part}
+use Rattle.search.proofs.Wide.{nonneg}
 use Rattle.filling.specs.Squares.{In}
 use Rattle.drawing.specs.declared.Frame.{Frame}
 use Rattle.drawing.specs.Letters.{asked, ownLetter}
 
-above : (z : ℤ) → T (nonNeg z) → pos 0 ≼ z
-above (pos n) t = num n
-above (negsuc n) t = absurd t
-
 module _ (f : Frame) (hq : T (nonNeg (f .q))) (ts : List Tree) (each : EachInherits (f .reach) ts) (c r w i j : ℕ) (h : In c r w i j) where
   part : PartOf (block (f .x) (f .y) (f .q) i j 1) (block (f .x) (f .y) (f .q) c r w)
-  part = block-part (f .x) (f .y) (f .q) c r w i j (above (f .q) hq) (h .left) (h .right) (h .low) (h .high)
+  part = block-part (f .x) (f .y) (f .q) c r w i j (nonneg (f .q) hq) (h .left) (h .right) (h .low) (h .high)
 
   same : (a : Answer) → exploreAll (asked f c r w) ts ≡ a → letter (settled a (settled (exploreAll (asked f i j 1) ts) doubtful)) ≡ ownLetter f ts i j
   same a e = ap letter (part-settled (f .reach) (block (f .x) (f .y) (f .q) c r w) (block (f .x) (f .y) (f .q) i j 1) part ts each a e _ refl)

@@ -1,12 +1,13 @@
 -- A cell that is a part of another: what a test says of the whole it says of the part. Assumes nothing.
-use mathlib.Core.Path.{_≡_, subst}
+use mathlib.Core.Path.{_≡_, ap, _∙_, subst}
 use mathlib.Core.Bool.{Bool, true, false}
-use lib.IntN.{ℤ, pos, negsuc, negℤ, _+ℤ_, _-ℤ_, _*ℤ_}
-use Rattle.integers.specs.RingSolver.{name₂, name₃, name₅, name₆, name₈, name₁₀, name₁₂, reify}
+use lib.IntN.{ℤ, pos, negsuc, negℤ, _+ℤ_, _-ℤ_, _*ℤ_, natAbs}
+use Rattle.integers.specs.RingSolver.{name₂, name₃, name₆, name₈, name₁₀, name₁₂, reify}
 use Rattle.integers.specs.Order.{_≼_, _≺_, _⊞_, _⊠_, gap}
 use Rattle.integers.specs.Omega.{zarith}
 use Rattle.integers.specs.Inequalities.{from, _&_, ≼-trans, ≼-≺-trans, ≺-≼-trans, ≼-*, ≼-+}
-use Rattle.integers.specs.Absolute.{absℤ, abs-nonneg, abs-≼, ≼-abs, neg≼-abs}
+use Rattle.integers.specs.Signed.{natAbs-neg}
+use Rattle.integers.specs.Absolute.{abs-+, absℤ, abs-nonneg, abs-≼}
 use Rattle.model.specs.Strips.{Side, Strip}
 use Rattle.model.specs.Explore.{Cell, squares, farthest, atLeast0, room, closest, isInside, isAway₁, isAway₂, lengthOf}
 use Rattle.integers.specs.Within.{Within, own-abs, times}
@@ -20,27 +21,21 @@ pub record PartOf (d c : Cell) : Type 0 where
   pub alongY : absℤ (d .cy -ℤ c .cy) +ℤ d .s ≼ c .s
 
 -- ---- from z to d is at most from z to c and from c to d; and the other way
-near : (c d z : ℤ) → absℤ (d -ℤ z) ≼ absℤ (c -ℤ z) +ℤ absℤ (d -ℤ c)
-near c d z = abs-≼ (d -ℤ z) (absℤ (c -ℤ z) +ℤ absℤ (d -ℤ c))
-    (low (absℤ (c -ℤ z)) (absℤ (d -ℤ c)) (neg≼-abs (c -ℤ z)) (neg≼-abs (d -ℤ c)))
-    (high (absℤ (c -ℤ z)) (absℤ (d -ℤ c)) (≼-abs (c -ℤ z)) (≼-abs (d -ℤ c)))
-  where
-    low : (a e : ℤ) → negℤ (c -ℤ z) ≼ a → negℤ (d -ℤ c) ≼ e → negℤ (a +ℤ e) ≼ d -ℤ z
-    low a e = name₅ c d z a e λ σ p q r s t. simp (p, q, r, s, t, reify, σ) (omega zarith)
+step : (c d z : ℤ) → (c -ℤ z) +ℤ (d -ℤ c) ≡ d -ℤ z
+step c d z = name₃ c d z λ σ p q r. simp (p, q, r, reify, σ) (omega zarith)
 
-    high : (a e : ℤ) → c -ℤ z ≼ a → d -ℤ c ≼ e → d -ℤ z ≼ a +ℤ e
-    high a e = name₅ c d z a e λ σ p q r s t. simp (p, q, r, s, t, reify, σ) (omega zarith)
+turn : (c d : ℤ) → c -ℤ d ≡ negℤ (d -ℤ c)
+turn c d = name₂ c d λ σ p q. simp (p, q, reify, σ) (omega zarith)
+
+near : (c d z : ℤ) → absℤ (d -ℤ z) ≼ absℤ (c -ℤ z) +ℤ absℤ (d -ℤ c)
+near c d z = subst (λ t. absℤ t ≼ absℤ (c -ℤ z) +ℤ absℤ (d -ℤ c)) (step c d z) (abs-+ (c -ℤ z) (d -ℤ c))
+
+either-way : (c d : ℤ) → absℤ (c -ℤ d) ≡ absℤ (d -ℤ c)
+unfolding absℤ
+either-way c d = ap (λ z. pos (natAbs z)) (turn c d) ∙ ap pos (natAbs-neg (d -ℤ c))
 
 far : (c d z : ℤ) → absℤ (c -ℤ z) ≼ absℤ (d -ℤ z) +ℤ absℤ (d -ℤ c)
-far c d z = abs-≼ (c -ℤ z) (absℤ (d -ℤ z) +ℤ absℤ (d -ℤ c))
-    (low (absℤ (d -ℤ z)) (absℤ (d -ℤ c)) (neg≼-abs (d -ℤ z)) (≼-abs (d -ℤ c)))
-    (high (absℤ (d -ℤ z)) (absℤ (d -ℤ c)) (≼-abs (d -ℤ z)) (neg≼-abs (d -ℤ c)))
-  where
-    low : (a e : ℤ) → negℤ (d -ℤ z) ≼ a → d -ℤ c ≼ e → negℤ (a +ℤ e) ≼ c -ℤ z
-    low a e = name₅ c d z a e λ σ p q r s t. simp (p, q, r, s, t, reify, σ) (omega zarith)
-
-    high : (a e : ℤ) → d -ℤ z ≼ a → negℤ (d -ℤ c) ≼ e → c -ℤ z ≼ a +ℤ e
-    high a e = name₅ c d z a e λ σ p q r s t. simp (p, q, r, s, t, reify, σ) (omega zarith)
+far c d z = subst (λ e. absℤ (c -ℤ z) ≼ absℤ (d -ℤ z) +ℤ e) (either-way c d) (near d c z)
 
 -- ---- one coordinate
 reach-less : (c d s t : ℤ) (S : Side) → absℤ (d -ℤ c) +ℤ t ≼ s → farthest d t S ≼ farthest c s S
@@ -100,9 +95,6 @@ turned x y u v p q =
 made-good : (m K K′ u v P Q b e s t : ℤ) → K ≼ K′ +ℤ u *ℤ Q +ℤ v *ℤ P → pos 0 ≼ P → pos 0 ≼ Q → u +ℤ t ≼ s → v +ℤ t ≼ s → m ≺ K -ℤ (b +ℤ s) *ℤ Q -ℤ (e +ℤ s) *ℤ P → m ≺ K′ -ℤ (b +ℤ t) *ℤ Q -ℤ (e +ℤ t) *ℤ P
 made-good m K K′ u v P Q b e s t h hP hQ hu hv l =
     from (h & gap hu ⊠ hQ & gap hv ⊠ hP & l) (name₁₂ m K K′ u v P Q b e s t t λ σ p₁ p₂ p₃ p₄ p₅ p₆ p₇ p₈ p₉ pa pb pc. simp (p₁, p₂, p₃, p₄, p₅, p₆, p₇, p₈, p₉, pa, pb, reify, σ) (omega zarith))
-
-step : (c d z : ℤ) → (c -ℤ z) +ℤ (d -ℤ c) ≡ d -ℤ z
-step c d z = name₃ c d z λ σ p q r. simp (p, q, r, reify, σ) (omega zarith)
 
 module _ (r : ℤ) (c d : Cell) (part : PartOf d c) (S : Strip) where
   pub away₂-part : isAway₂ r c S ≡ true → isAway₂ r d S ≡ true

@@ -17,7 +17,8 @@ use Rattle.strip_tests.specs.PlainTests.{code}
 use Rattle.ranges.specs.Sizes.{SideSized}
 use Rattle.search.specs.Held.{cellAt, Enough}
 
-nonneg : (z : ℤ) → T (nonNeg z) → pos 0 ≼ z
+-- a number whose sign says that it is not below 0
+pub nonneg : (z : ℤ) → T (nonNeg z) → pos 0 ≼ z
 nonneg (pos n) t = num n
 nonneg (negsuc n) t = absurd t
 

@@ -72,3 +72,7 @@ least (suc f) n k e h =
 pub root-least : (n k : ℕ) → n ≤ k * k → root n ≤ k
 unfolding root
 root-least n k h = least n n k (omega arith) h
+
+-- both at once: the smallest whole number whose square is at least n
+pub root-smallest : (n : ℕ) → (n ≤ root n * root n) × ((k : ℕ) → n ≤ k * k → root n ≤ k)
+root-smallest n = (root-reaches n, root-least n)
