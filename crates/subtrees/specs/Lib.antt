@@ -1,6 +1,7 @@
 -- The subtree of a piece as code walks it, and lists that begin with a tree in preorder.
 pub mod Preorder
 pub mod Begins
+pub mod Halves
 pub mod Subtrees
 pub mod Halving
 pub mod Counts

@@ -1,0 +1,44 @@
+-- What each step of the lookup of a point answers, in the model's terms. Assumes nothing.
+use mathlib.Core.Path.{_≡_}
+use mathlib.Core.List.{List, [], _∷_}
+use Prim.Native.Nat.{ℕ, _≤_}
+use lib.IntN.{ℤ, pos, natAbs}
+use lib.ListN.{length}
+use Rattle.model.specs.Strips.{Side, Strip}
+use Rattle.model.specs.Trees.{Tree}
+use Rattle.model.specs.Explore.{Cell, farthest, closest, farthest², closest²}
+use Rattle.model.specs.Distance.{leavesAll, leavesAt, least, Some}
+use Rattle.ranges.specs.Sizes.{EachSized}
+use Rattle.subtrees.specs.Preorder.{BeginsAll}
+use Rattle.distance.specs.declared.Range.{Range}
+use Rattle.distance.specs.declared.Bounds.{Bounds}
+use Rattle.distance.specs.declared.Found.{Found}
+
+-- a point in fine units
+abbrev pub pointAt : ℤ → ℤ → Cell
+pointAt x y = record { cx = x; cy = y; s = pos 0 }
+
+-- in one coordinate, of the point c and a strip's upright box
+pub record RangeOf (c : ℤ) (S : Side) (r : Range) : Type 0 where
+  pub near-is : r .near ≡ closest c (pos 0) S
+  pub far-is : r .far ≡ farthest c (pos 0) S
+  pub near-size : natAbs (r .near) ≤ 1223959552
+  pub far-size : natAbs (r .far) ≤ 1223959552
+
+-- over some leaves
+pub record BoundsOf (c : Cell) (ss : List Strip) (r : Bounds) : Type 0 where
+  pub lo-is : r .lo ≡ least (closest² c) ss
+  pub hi-is : r .hi ≡ least (farthest² c) ss
+
+-- over some edges' trees
+pub record FoundIn (c : Cell) (ts : List Tree) (r : Found) : Type 0 where
+  pub lo-is : r .lo ≡ least (closest² c) (leavesAll ts)
+  pub hi-is : r .hi ≡ least (farthest² c) (leavesAll ts)
+  pub attains : Some (λ s. farthest² c s ≡ least (farthest² c) (leavesAll ts)) (leavesAt ts (r .edge))
+
+-- the list begins with k trees whose strips are sized
+pub record TreesOf (l : List ℤ) (k : ℕ) : Type 0 where
+  pub trees : List Tree
+  pub many : length trees ≡ k
+  pub is : BeginsAll trees l
+  pub sized : EachSized trees
