@@ -1,3 +1,4 @@
 -- Laws that belong to no one function.
 pub mod Clamps
 pub mod Finds
+pub mod Edges
