@@ -5,3 +5,4 @@ pub mod Halves
 pub mod Subtrees
 pub mod Halving
 pub mod Counts
+pub mod Sizes

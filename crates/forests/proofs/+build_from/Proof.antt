@@ -13,8 +13,9 @@ use Rattle.model.specs.Trees.{Tree, tree, isLong}
 use Rattle.model.specs.Store.{width, size, sizes, flatten}
 
 use Rattle.sequences.specs.Parts.{tail-mid}
+use Rattle.subtrees.specs.Sizes.{few-nodes}
 use Rattle.forests.specs.Walk.{treesFrom, end-is}
-use Rattle.forests.proofs.Steps.{few-nodes, Split, split, length-built, built}
+use Rattle.forests.proofs.Steps.{Split, split, length-built, built}
 use Prim.Native.Nat.{ℕ, _<_}
 use borrow.Fn.Kinds.{In}
 use borrow.Fn.PlainCycle.{Measures, is, falls, and}

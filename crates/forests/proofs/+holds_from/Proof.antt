@@ -14,8 +14,9 @@ use Rattle.model.specs.Store.{width, size, sizes, flatten}
 
 use Rattle.subtrees.specs.Preorder.{size-pos, tail, Begins, BeginsAll, all-first}
 use Rattle.checking.specs.Answers.{Told, refused, granted}
+use Rattle.subtrees.specs.Sizes.{few-nodes}
 use Rattle.forests.specs.Walk.{treesFrom, end-is}
-use Rattle.forests.proofs.Steps.{few-nodes, Split, split, says-more}
+use Rattle.forests.proofs.Steps.{Split, split, says-more}
 use Prim.Native.Nat.{ℕ, _<_}
 use borrow.Fn.Kinds.{In}
 use borrow.Fn.PlainCycle.{Measures, is, falls, and}

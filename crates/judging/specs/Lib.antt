@@ -1,0 +1,2 @@
+-- A job's places one by one.
+pub mod Places
