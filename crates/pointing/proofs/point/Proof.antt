@@ -1,69 +1,141 @@
+-- Each return is one of the answers of `Answers`. Assumes nothing.
+use mathlib.Core.Path.{_≡_, refl, sym, ap, _∙_, subst}
+use mathlib.Core.Bool.{true, false, cond}
+use Prim.Native.Nat.{_+_, _*_, _≤_, _<_}
+use native.Mathlib.Omega.{arith}
 use borrow.Author.Needs.{needs}
+use borrow.Author.Tests.{not-true, not-false}
+use lib.IntN.{ℤ, pos, natAbs}
+use lib.ListN.{length}
+use mir.Syntax.{w32}
+use mir.Val.{toZ, ofZ}
+use mir.Facts.{toZ-ofZ}
+use Rattle.integers.specs.Signed.{fits32, read64}
+use Rattle.model.specs.declared.Nearest.{Nearest}
+use Rattle.model.specs.Jobs.{outline}
+use Rattle.model.specs.Trees.{anyLong}
+use Rattle.model.specs.Store.{width, forest, nodesOf, storeOf, begins}
+use Rattle.model.specs.Entries.{IsNearest}
+use Rattle.pointing.specs.Checks.{asking, refusedWith}
+use Rattle.pointing.proofs.Answers.{refuse, accept, asked, Passed, passed, long-5, none-long, nodes-are, few-nodes, store-6, stranger-8, accepted-0, trees-many, trees-there}
 use Rattle.pointing.proofs.point.Statement.{statement}
 use Rattle.pointing.proofs.point.Tie as tie
-use Rattle.pointing.proofs.point.Reads as reads
-use Rattle.pointing.proofs.point.Lts as lts
-use Rattle.distance.proofs.nearest.Reads as nearest-reads
-use Rattle.forests.proofs.count_nodes.Reads as count-nodes-reads
-use Rattle.forests.proofs.holds_all.Reads as holds-all-reads
-use Rattle.pointing.proofs.ask.Reads as ask-reads
-use Rattle.pointing.proofs.refused.Reads as refused-reads
 
--- src/lib.rt:37:9
+-- ---- the checks of numbers
+asking-is : (c : tie.After-ask) → let s = c .before in c .ask .result ≡ asking (s .args .job) (s .args .x) (s .args .y)
+asking-is c = let s = c .before in rw (toZ-ofZ (s .fits .x), toZ-ofZ (s .fits .y)) at (c .ask .ensures)
+
+good : (c : tie.Else1) → let s = c .before .before in Passed (s .args .job) (s .args .x) (s .args .y) (s .args .store .now)
+good c = let s = c .before .before in passed (s .args .job) (s .args .x) (s .args .y) (s .args .store .now) (sym (asking-is (c .before)) ∙ c .if1 .left)
+
+grain-is : (c : tie.Else1) → let s = c .before .before in toZ w32 (ofZ w32 (s .args .job .grain)) ≡ s .args .job .grain
+grain-is c = toZ-ofZ (fits32 (good c .job .grain-in-range .grain-size) tt)
+
+-- ---- the checks of the trees
+nodes-is : (c : tie.After-count-nodes) → let s = c .before .before .before .before .before .before in c .count-nodes .result ≡ cond (anyLong (forest (s .args .job))) 0 (nodesOf (s .args .job))
+unfolding forest outline
+nodes-is c = rw (grain-is (c .before .before .before .before)) at (c .count-nodes .ensures)
+
+begins-is : (c : tie.After-holds-all) → let s = c .before .before .before .before .before .before .before .before .before .before in c .holds-all .result ≡ begins (s .args .store .now) (storeOf (s .args .job))
+unfolding forest outline
+begins-is c = rw (grain-is (c .before .before .before .before .before .before .before .before)) at (c .holds-all .ensures)
+
 ask-requires : tie.Need-ask-requires
 ask-requires c κs = search needs
 
--- src/lib.rt:39:9
 refused-requires : tie.Need-refused-requires
 refused-requires c κs = search needs
 
--- src/lib.rt:39:9
 returns : tie.Need-returns
-returns c = ?
+returns c =
+    let a = c .before .before in
+    let s = a .before in
+    rw (c .refused .ensures) (refuse (s .args .job) (s .args .x) (s .args .y) (s .args .store .now) (a .ask .result) (c .before .if1 .taken) (asked (s .args .job) (s .args .x) (s .args .y) (s .args .store .now) (a .ask .result) (asking-is a) (c .before .if1 .taken)))
 
--- src/lib.rt:44:9
 count-nodes-requires : tie.Need-count-nodes-requires
-count-nodes-requires c κs = ?
+count-nodes-requires c κs =
+    let g = c .before .before .before in
+    let p = good g .job in
+    rw (grain-is g) (p .places-in, p .few-edges, p .grain-in-range)
 
--- src/lib.rt:46:9
 refused-requires-2 : tie.Need-refused-requires-2
 refused-requires-2 c κs = search needs
 
--- src/lib.rt:46:9
 returns-2 : tie.Need-returns-2
-returns-2 c = ?
+returns-2 c =
+    let n = c .before .before in
+    let g = n .before .before .before .before in
+    let s = g .before .before in
+    rw (c .refused2 .ensures) (refuse (s .args .job) (s .args .x) (s .args .y) (s .args .store .now) 5 (λ z. omega arith) (long-5 (s .args .job) (s .args .x) (s .args .y) (s .args .store .now) (good g) (sym (nodes-is n) ∙ c .before .if2 .taken)))
 
--- src/lib.rt:48:22
 mul-if3 : tie.Need-mul-if3
-mul-if3 c = ?
+mul-if3 c =
+    let n = c .before in
+    let g = n .before .before .before .before in
+    let s = g .before .before in
+    omega (arith, few-nodes (s .args .job) (s .args .x) (s .args .y) (s .args .store .now) (good g) (n .count-nodes .result) (nodes-is n) (c .if2 .left))
 
--- src/lib.rt:49:9
 refused-requires-3 : tie.Need-refused-requires-3
 refused-requires-3 c κs = search needs
 
--- src/lib.rt:49:9
 returns-3 : tie.Need-returns-3
-returns-3 c = ?
+returns-3 c =
+    let k = c .before .before in
+    let n = k .before in
+    let g = n .before .before .before .before in
+    let s = g .before .before in
+    rw (c .refused3 .ensures) (refuse (s .args .job) (s .args .x) (s .args .y) (s .args .store .now) 6 (λ z. omega arith) (store-6 (s .args .job) (s .args .x) (s .args .y) (s .args .store .now) (good g) (n .count-nodes .result) (nodes-is n) (k .if2 .left) (c .before .if3 .taken)))
 
--- src/lib.rt:51:9
 holds-all-requires : tie.Need-holds-all-requires
-holds-all-requires c κs = ?
+unfolding forest outline
+holds-all-requires c κs =
+    let r = c .before in
+    let k = r .before in
+    let n = k .before in
+    let g = n .before .before .before .before in
+    let s = g .before .before in
+    let p = good g .job in
+    let i = nodes-are (s .args .job) (s .args .x) (s .args .y) (s .args .store .now) (good g) (n .count-nodes .result) (nodes-is n) (k .if2 .left) in
+    rw (grain-is g) (p .places-in, p .few-edges, p .grain-in-range, none-long (s .args .job) (s .args .x) (s .args .y) (s .args .store .now) (good g) (n .count-nodes .result) (nodes-is n) (k .if2 .left), omega (arith, i, r .if3 .left))
 
--- src/lib.rt:52:9
 refused-requires-4 : tie.Need-refused-requires-4
 refused-requires-4 c κs = search needs
 
--- src/lib.rt:52:9
 returns-4 : tie.Need-returns-4
-returns-4 c = ?
+returns-4 c =
+    let h = c .before .before in
+    let r = h .before .before in
+    let k = r .before in
+    let n = k .before in
+    let g = n .before .before .before .before in
+    let s = g .before .before in
+    rw (c .refused4 .ensures) (refuse (s .args .job) (s .args .x) (s .args .y) (s .args .store .now) 8 (λ z. omega arith) (stranger-8 (s .args .job) (s .args .x) (s .args .y) (s .args .store .now) (good g) (n .count-nodes .result) (nodes-is n) (k .if2 .left) (r .if3 .left) (h .holds-all .result) (begins-is h) (not-true (h .holds-all .result) (c .before .if4 .taken))))
 
--- src/lib.rt:54:9
+holds : (c : tie.Else4) → let s = c .before .before .before .before .before .before .before .before .before .before .before in begins (s .args .store .now) (storeOf (s .args .job)) ≡ true
+holds c = let h = c .before in sym (begins-is h) ∙ not-false (h .holds-all .result) (c .if4 .left)
+
 nearest-requires : tie.Need-nearest-requires
-nearest-requires c κs = ?
+nearest-requires c κs =
+    let g = c .before .before .before .before .before .before .before .before .before in
+    let s = g .before .before in
+    let p = good g in
+    rw (toZ-ofZ (s .fits .x), toZ-ofZ (s .fits .y)) (trees-there (s .args .job) (s .args .x) (s .args .y) (s .args .store .now) p (holds c), p .job .some-edge, p .job .few-edges, p .x-in, p .y-in)
 
--- src/lib.rt:34:1
 returns-5 : tie.Need-returns-5
-returns-5 c = ?
+returns-5 c =
+    let d = c .before in
+    let e = d .before in
+    let h = e .before in
+    let r = h .before .before in
+    let k = r .before in
+    let n = k .before in
+    let g = n .before .before .before .before in
+    let s = g .before .before in
+    let p = good g in
+    let f = d .nearest .result in
+    let a = rw (toZ-ofZ (s .fits .x), toZ-ofZ (s .fits .y)) at (d .nearest .ensures (forest (s .args .job)) (trees-many (s .args .job) (s .args .x) (s .args .y) (s .args .store .now) p) (holds e)) in
+    let z = accepted-0 (s .args .job) (s .args .x) (s .args .y) (s .args .store .now) p (n .count-nodes .result) (nodes-is n) (k .if2 .left) (r .if3 .left) (h .holds-all .result) (begins-is h) (not-false (h .holds-all .result) (e .if4 .left)) in
+    accept (s .args .job) (s .args .x) (s .args .y) (s .args .store .now) _ z refl (read64 (f .lo) (c .struct-told2 .given .0 .1) ∙ a .0) (read64 (f .hi) (c .struct-told2 .given .1 .0 .1) ∙ a .1) (a .2)
 
 pub point-spec : {M : Type 1} → statement M
 point-spec =
