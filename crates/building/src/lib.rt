@@ -30,7 +30,15 @@ pub fn put(s: &mut [i32], x: Extent, y: Extent, nodes: usize)
 }
 
 // Writes the piece's subtree at the front of s, and returns its nodes. A node's own numbers come last: only then are they counted.
-pub fn build(s: &mut [i32], cx: Power, cy: Power, left: usize, n: usize, m: usize, limit: i64) -> usize
+pub fn build(
+    s: &mut [i32],
+    cx: Power,
+    cy: Power,
+    left: usize,
+    n: usize,
+    m: usize,
+    limit: i64,
+) -> usize
     requires { ⌜ FormSized (form cx) × FormSized (form cy) × Halvable left n m × (isLong (subtree limit (form cx) (form cy) left n m) ≡ false) × (width * size (subtree limit (form cx) (form cy) left n m) ≤ length (now s)) ⌝ }
     ensures nodes { λ r. ⌜ r ≡ size (subtree limit (form cx) (form cy) left n m) ⌝ }
     ensures written { λ _. ⌜ now (s .exit) ≡ flatten (subtree limit (form cx) (form cy) left n m) ++ drop (width * size (subtree limit (form cx) (form cy) left n m)) (now (s .entry)) ⌝ }

@@ -58,7 +58,15 @@ pub fn differs_strip(s: &[i32], x: Extent, y: Extent) -> bool
 }
 
 // the nodes of the piece's subtree if s begins with it, and 0 otherwise
-pub fn begins_with(s: &[i32], cx: Power, cy: Power, left: usize, n: usize, m: usize, limit: i64) -> usize
+pub fn begins_with(
+    s: &[i32],
+    cx: Power,
+    cy: Power,
+    left: usize,
+    n: usize,
+    m: usize,
+    limit: i64,
+) -> usize
     requires { ⌜ FormSized (form cx) × FormSized (form cy) × Halvable left n m × (isLong (subtree limit (form cx) (form cy) left n m) ≡ false) × (width * size (subtree limit (form cx) (form cy) left n m) ≤ length (now s)) ⌝ }
     ensures told { λ r. ⌜ Told r (size (subtree limit (form cx) (form cy) left n m)) (Begins (subtree limit (form cx) (form cy) left n m) (now (s .entry))) ⌝ }
 {

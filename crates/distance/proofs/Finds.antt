@@ -1,13 +1,12 @@
 -- What the lookup finds in a tree, from what its calls find. Assumes nothing.
-use mathlib.Core.Path.{_≡_, refl, sym, ap, ap₂, _∙_, subst}
-use mathlib.Core.List.{List, [], _∷_, _++_}
-use Prim.Native.Nat.{ℕ, suc, _+_, _*_, _-_, _≤_, _<_}
+use mathlib.Core.Path.{_≡_, refl, sym, ap, ap₂, _∙_}
+use mathlib.Core.List.{List, _++_}
+use Prim.Native.Nat.{ℕ, _+_, _*_, _-_}
 use native.Mathlib.Omega.{arith}
 use lib.IntN.{ℤ, pos, natAbs}
 use lib.ListN.{length, getD, take, drop}
-use Rattle.model.specs.Strips.{Strip}
 use Rattle.model.specs.Trees.{Tree, leaf, long, node}
-use Rattle.model.specs.Store.{width, size, flatten}
+use Rattle.model.specs.Store.{width, flatten}
 use Rattle.model.specs.Explore.{Cell, farthest², closest²}
 use Rattle.model.specs.Distance.{leaves, lesser, least}
 use Rattle.subtrees.specs.Preorder.{size-pos, countPlace}

@@ -53,7 +53,10 @@ pub fn range_of(part: &[i32], i: usize, c: i64) -> Range
     let w = arithmetic::abs(c - centre);
     let a = arithmetic::abs(axis);
     let near = at_least_0(w - a - half);
-    Range { near: near, far: w + a + half }
+    Range {
+        near: near,
+        far: w + a + half,
+    }
 }
 
 pub fn sum_of_squares(x: i64, y: i64) -> i64
@@ -123,9 +126,17 @@ pub fn join_edge(a: Bounds, b: Found) -> Found
     let later = b.hi;
     if later < first {
         let edge = b.edge + 1;
-        return Found { lo: lo, hi: later, edge: edge };
+        return Found {
+            lo: lo,
+            hi: later,
+            edge: edge,
+        };
     }
-    Found { lo: lo, hi: first, edge: 0 }
+    Found {
+        lo: lo,
+        hi: first,
+        edge: 0,
+    }
 }
 
 // over the trees of `count` edges, with which s begins; x and y are in fine units
@@ -139,7 +150,11 @@ pub fn nearest_from(s: &[i32], count: usize, x: i64, y: i64) -> Found
     if count == 1 {
         let lo = first.lo;
         let hi = first.hi;
-        return Found { lo: lo, hi: hi, edge: 0 };
+        return Found {
+            lo: lo,
+            hi: hi,
+            edge: 0,
+        };
     }
     let later = nearest_from(&s[end..], count - 1, x, y);
     join_edge(first, later)

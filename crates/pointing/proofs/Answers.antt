@@ -11,9 +11,9 @@ use lib.ListN.{length}
 use Rattle.model.specs.declared.Job.{Job}
 use Rattle.model.specs.declared.Nearest.{Nearest}
 use Rattle.model.specs.Refusals.{accepted}
-use Rattle.model.specs.Jobs.{coordinate, counted, ranged, celled, edgesFrom, outline}
+use Rattle.model.specs.Jobs.{coordinate, counted, ranged, celled, outline}
 use Rattle.model.specs.Trees.{trees, anyLong}
-use Rattle.model.specs.Store.{width, sizes, forest, nodesOf, storeOf, begins}
+use Rattle.model.specs.Store.{width, forest, nodesOf, storeOf, begins}
 use Rattle.model.specs.Distance.{lo, hi, Attains}
 use Rattle.model.specs.Entries.{pointRefusal, EdgeFor, IsNearest}
 use Rattle.ranges.specs.Jobs.{JobSized, coordinate-in, ranged-sized, forest-sized}

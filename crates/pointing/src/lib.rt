@@ -28,7 +28,12 @@ pub fn ask(job: Job, x: i32, y: i32) -> u8
 fn refused(number: u8) -> Nearest
     ensures zeros { λ r. ⌜ r ≡ refusedWith number ⌝ }
 {
-    Nearest { refusal: number, lo: 0, hi: 0, edge: 0 }
+    Nearest {
+        refusal: number,
+        lo: 0,
+        hi: 0,
+        edge: 0,
+    }
 }
 
 pub fn point(job: Job, x: i32, y: i32, store: &[i32]) -> Nearest
@@ -52,5 +57,10 @@ pub fn point(job: Job, x: i32, y: i32, store: &[i32]) -> Nearest
         return refused(8);
     }
     let found = distance::nearest(store, count, x, y);
-    Nearest { refusal: 0, lo: found.lo, hi: found.hi, edge: found.edge }
+    Nearest {
+        refusal: 0,
+        lo: found.lo,
+        hi: found.hi,
+        edge: found.edge,
+    }
 }

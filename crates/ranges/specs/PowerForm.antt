@@ -12,7 +12,7 @@ use Rattle.integers.specs.Rounding.{nearest}
 use Rattle.model.specs.Jobs.{Cubic}
 use Rattle.model.specs.Strips as model
 use Rattle.model.specs.Strips.{Side, sideAt}
-use Rattle.ranges.specs.Bounds.{add-in, sub-in, mul-in, nearest-in, abs-size}
+use Rattle.ranges.specs.Bounds.{add-in, sub-in, mul-in, nearest-in}
 use Rattle.ranges.specs.Sizes.{ControlSized, SideSized}
 
 -- ---- the power form, and what it gives for the piece with N = n and the middle m
@@ -74,12 +74,12 @@ form-sized b h = record {
   c1-size = mul-in (pos 3) (b .b1 -ℤ b .b0) 3 2000000 (le-refl 3) (sub-in (b .b1) (b .b0) 1000000 1000000 (h .b1-size) (h .b0-size));
   c2-size = mul-in (pos 3) (b .b0 -ℤ pos 2 *ℤ b .b1 +ℤ b .b2) 3 4000000 (le-refl 3)
       (add-in (b .b0 -ℤ pos 2 *ℤ b .b1) (b .b2) 3000000 1000000
-        (sub-in (b .b0) (pos 2 *ℤ b .b1) 1000000 2000000 (h .b0-size) (mul-in (pos 2) (b .b1) 2 1000000 (le-refl 2) (h .b1-size)))
-        (h .b2-size));
+      (sub-in (b .b0) (pos 2 *ℤ b .b1) 1000000 2000000 (h .b0-size) (mul-in (pos 2) (b .b1) 2 1000000 (le-refl 2) (h .b1-size)))
+      (h .b2-size));
   c3-size = sub-in (b .b3 -ℤ pos 3 *ℤ b .b2 +ℤ pos 3 *ℤ b .b1) (b .b0) 7000000 1000000
       (add-in (b .b3 -ℤ pos 3 *ℤ b .b2) (pos 3 *ℤ b .b1) 4000000 3000000
-        (sub-in (b .b3) (pos 3 *ℤ b .b2) 1000000 3000000 (h .b3-size) (mul-in (pos 3) (b .b2) 3 1000000 (le-refl 3) (h .b2-size)))
-        (mul-in (pos 3) (b .b1) 3 1000000 (le-refl 3) (h .b1-size)))
+      (sub-in (b .b3) (pos 3 *ℤ b .b2) 1000000 3000000 (h .b3-size) (mul-in (pos 3) (b .b2) 3 1000000 (le-refl 3) (h .b2-size)))
+      (mul-in (pos 3) (b .b1) 3 1000000 (le-refl 3) (h .b1-size)))
       (h .b0-size);
 }
 
@@ -100,45 +100,45 @@ module _ (c : Form) (n m : ℕ) (s : FormSized c) (h : 2 ≤ n) (k : m ≤ n) wh
   a0-in : natAbs (a0 c (pos n) (pos m)) ≤ 27000000 * (n * n * n)
   a0-in = le-trans
       (add-in (c .c0 *ℤ (pos n *ℤ pos n *ℤ pos n) +ℤ c .c1 *ℤ (pos n *ℤ pos n) *ℤ pos m +ℤ c .c2 *ℤ pos n *ℤ (pos m *ℤ pos m)) (c .c3 *ℤ (pos m *ℤ pos m *ℤ pos m)) (1000000 * (n * n * n) + 6000000 * (n * n) * n + 12000000 * n * (n * n)) (8000000 * (n * n * n))
-        (add-in (c .c0 *ℤ (pos n *ℤ pos n *ℤ pos n) +ℤ c .c1 *ℤ (pos n *ℤ pos n) *ℤ pos m) (c .c2 *ℤ pos n *ℤ (pos m *ℤ pos m)) (1000000 * (n * n * n) + 6000000 * (n * n) * n) (12000000 * n * (n * n))
-          (add-in (c .c0 *ℤ (pos n *ℤ pos n *ℤ pos n)) (c .c1 *ℤ (pos n *ℤ pos n) *ℤ pos m) (1000000 * (n * n * n)) (6000000 * (n * n) * n)
-            (mul-in (c .c0) (pos n *ℤ pos n *ℤ pos n) 1000000 (n * n * n) (s .c0-size) (le-refl (n * n * n)))
-            (mul-in (c .c1 *ℤ (pos n *ℤ pos n)) (pos m) (6000000 * (n * n)) n (mul-in (c .c1) (pos n *ℤ pos n) 6000000 (n * n) (s .c1-size) (le-refl (n * n))) k))
-          (mul-in (c .c2 *ℤ pos n) (pos m *ℤ pos m) (12000000 * n) (n * n) (mul-in (c .c2) (pos n) 12000000 n (s .c2-size) (le-refl n)) (mul-le-mul k k)))
-        (mul-in (c .c3) (pos m *ℤ pos m *ℤ pos m) 8000000 (n * n * n) (s .c3-size) (mul-le-mul (mul-le-mul k k) k)))
+      (add-in (c .c0 *ℤ (pos n *ℤ pos n *ℤ pos n) +ℤ c .c1 *ℤ (pos n *ℤ pos n) *ℤ pos m) (c .c2 *ℤ pos n *ℤ (pos m *ℤ pos m)) (1000000 * (n * n * n) + 6000000 * (n * n) * n) (12000000 * n * (n * n))
+      (add-in (c .c0 *ℤ (pos n *ℤ pos n *ℤ pos n)) (c .c1 *ℤ (pos n *ℤ pos n) *ℤ pos m) (1000000 * (n * n * n)) (6000000 * (n * n) * n)
+      (mul-in (c .c0) (pos n *ℤ pos n *ℤ pos n) 1000000 (n * n * n) (s .c0-size) (le-refl (n * n * n)))
+      (mul-in (c .c1 *ℤ (pos n *ℤ pos n)) (pos m) (6000000 * (n * n)) n (mul-in (c .c1) (pos n *ℤ pos n) 6000000 (n * n) (s .c1-size) (le-refl (n * n))) k))
+      (mul-in (c .c2 *ℤ pos n) (pos m *ℤ pos m) (12000000 * n) (n * n) (mul-in (c .c2) (pos n) 12000000 n (s .c2-size) (le-refl n)) (mul-le-mul k k)))
+      (mul-in (c .c3) (pos m *ℤ pos m *ℤ pos m) 8000000 (n * n * n) (s .c3-size) (mul-le-mul (mul-le-mul k k) k)))
       (omega arith)
 
   a1-in : natAbs (a1 c (pos n) (pos m)) ≤ 54000000 * (n * n)
   a1-in = le-trans
       (add-in (c .c1 *ℤ (pos n *ℤ pos n) +ℤ pos 2 *ℤ c .c2 *ℤ pos n *ℤ pos m) (pos 3 *ℤ c .c3 *ℤ (pos m *ℤ pos m)) (6000000 * (n * n) + 24000000 * n * n) (24000000 * (n * n))
-        (add-in (c .c1 *ℤ (pos n *ℤ pos n)) (pos 2 *ℤ c .c2 *ℤ pos n *ℤ pos m) (6000000 * (n * n)) (24000000 * n * n)
-          (mul-in (c .c1) (pos n *ℤ pos n) 6000000 (n * n) (s .c1-size) (le-refl (n * n)))
-          (mul-in (pos 2 *ℤ c .c2 *ℤ pos n) (pos m) (24000000 * n) n (mul-in (pos 2 *ℤ c .c2) (pos n) 24000000 n (mul-in (pos 2) (c .c2) 2 12000000 (le-refl 2) (s .c2-size)) (le-refl n)) k))
-        (mul-in (pos 3 *ℤ c .c3) (pos m *ℤ pos m) 24000000 (n * n) (mul-in (pos 3) (c .c3) 3 8000000 (le-refl 3) (s .c3-size)) (mul-le-mul k k)))
+      (add-in (c .c1 *ℤ (pos n *ℤ pos n)) (pos 2 *ℤ c .c2 *ℤ pos n *ℤ pos m) (6000000 * (n * n)) (24000000 * n * n)
+      (mul-in (c .c1) (pos n *ℤ pos n) 6000000 (n * n) (s .c1-size) (le-refl (n * n)))
+      (mul-in (pos 2 *ℤ c .c2 *ℤ pos n) (pos m) (24000000 * n) n (mul-in (pos 2 *ℤ c .c2) (pos n) 24000000 n (mul-in (pos 2) (c .c2) 2 12000000 (le-refl 2) (s .c2-size)) (le-refl n)) k))
+      (mul-in (pos 3 *ℤ c .c3) (pos m *ℤ pos m) 24000000 (n * n) (mul-in (pos 3) (c .c3) 3 8000000 (le-refl 3) (s .c3-size)) (mul-le-mul k k)))
       (omega arith)
 
   a2-in : natAbs (a2 c (pos n) (pos m)) ≤ 36000000 * n
   a2-in = le-trans
       (add-in (c .c2 *ℤ pos n) (pos 3 *ℤ c .c3 *ℤ pos m) (12000000 * n) (24000000 * n)
-        (mul-in (c .c2) (pos n) 12000000 n (s .c2-size) (le-refl n))
-        (mul-in (pos 3 *ℤ c .c3) (pos m) 24000000 n (mul-in (pos 3) (c .c3) 3 8000000 (le-refl 3) (s .c3-size)) k))
+      (mul-in (c .c2) (pos n) 12000000 n (s .c2-size) (le-refl n))
+      (mul-in (pos 3 *ℤ c .c3) (pos m) 24000000 n (mul-in (pos 3) (c .c3) 3 8000000 (le-refl 3) (s .c3-size)) k))
       (omega arith)
 
   centre-in : natAbs (centreBy c (pos n) (pos m) (n * n * n)) ≤ 504000001
   centre-in = nearest-in (pos 16 *ℤ a0 c (pos n) (pos m) +ℤ pos 8 *ℤ a2 c (pos n) (pos m)) (n * n * n) 504000000 (cube-above n h)
       (le-trans
-        (add-in (pos 16 *ℤ a0 c (pos n) (pos m)) (pos 8 *ℤ a2 c (pos n) (pos m)) (16 * (27000000 * (n * n * n))) (8 * (36000000 * n))
-          (mul-in (pos 16) (a0 c (pos n) (pos m)) 16 (27000000 * (n * n * n)) (le-refl 16) a0-in)
-          (mul-in (pos 8) (a2 c (pos n) (pos m)) 8 (36000000 * n) (le-refl 8) a2-in))
-        (omega (arith, cubes n h .1)))
+      (add-in (pos 16 *ℤ a0 c (pos n) (pos m)) (pos 8 *ℤ a2 c (pos n) (pos m)) (16 * (27000000 * (n * n * n))) (8 * (36000000 * n))
+      (mul-in (pos 16) (a0 c (pos n) (pos m)) 16 (27000000 * (n * n * n)) (le-refl 16) a0-in)
+      (mul-in (pos 8) (a2 c (pos n) (pos m)) 8 (36000000 * n) (le-refl 8) a2-in))
+      (omega (arith, cubes n h .1)))
 
   axis-in : natAbs (axisBy c (pos n) (pos m) (n * n * n)) ≤ 444000001
   axis-in = nearest-in (pos 16 *ℤ a1 c (pos n) (pos m) +ℤ pos 12 *ℤ c .c3) (n * n * n) 444000000 (cube-above n h)
       (le-trans
-        (add-in (pos 16 *ℤ a1 c (pos n) (pos m)) (pos 12 *ℤ c .c3) (16 * (54000000 * (n * n))) 96000000
-          (mul-in (pos 16) (a1 c (pos n) (pos m)) 16 (54000000 * (n * n)) (le-refl 16) a1-in)
-          (mul-in (pos 12) (c .c3) 12 8000000 (le-refl 12) (s .c3-size)))
-        (omega (arith, cubes n h .0, cubes n h .2)))
+      (add-in (pos 16 *ℤ a1 c (pos n) (pos m)) (pos 12 *ℤ c .c3) (16 * (54000000 * (n * n))) 96000000
+      (mul-in (pos 16) (a1 c (pos n) (pos m)) 16 (54000000 * (n * n)) (le-refl 16) a1-in)
+      (mul-in (pos 12) (c .c3) 12 8000000 (le-refl 12) (s .c3-size)))
+      (omega (arith, cubes n h .0, cubes n h .2)))
 
   pub second-in : natAbs (secondBy c (pos n) (pos m) (n * n * n)) ≤ 72000001
   second-in = nearest-in (pos 8 *ℤ a2 c (pos n) (pos m)) (n * n * n) 72000000 (cube-above n h)

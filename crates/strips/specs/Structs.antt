@@ -1,5 +1,5 @@
 -- What the code's structs stand for in the model. Assumes nothing.
-use mathlib.Core.Path.{_≡_, refl, ap, _∙_}
+use mathlib.Core.Path.{_≡_, ap, _∙_}
 use lib.IntN.{ℤ}
 use Rattle.model.specs.Jobs.{Cubic}
 use Rattle.model.specs.Strips.{Side, Strip}

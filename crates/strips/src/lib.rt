@@ -38,7 +38,12 @@ pub fn power_form(b0: i64, b1: i64, b2: i64, b3: i64) -> Power
     let c1 = 3 * (b1 - b0);
     let c2 = 3 * (b0 - 2 * b1 + b2);
     let c3 = b3 - 3 * b2 + 3 * b1 - b0;
-    Power { c0: b0, c1: c1, c2: c2, c3: c3 }
+    Power {
+        c0: b0,
+        c1: c1,
+        c2: c2,
+        c3: c3,
+    }
 }
 
 // ---- a0 to a2 of the piece with N = n and the middle m; a3 is c3. Each says how large it is: a caller multiplies it.
@@ -115,7 +120,11 @@ pub fn extent_of(c: Power, n: usize, m: usize) -> Extent
     let centre = centre_of(c, a, b, cube);
     let axis = axis_of(c, a, b, cube);
     let half = box_of(c, a, b, cube);
-    Extent { centre: centre, axis: axis, half: half }
+    Extent {
+        centre: centre,
+        axis: axis,
+        half: half,
+    }
 }
 
 // ---- short: no upright box half above the limit, which is 16 grains
@@ -149,5 +158,9 @@ pub fn piece_of(cx: Power, cy: Power, n: usize, m: usize, limit: i64) -> Piece
     let x = extent_of(cx, n, m);
     let y = extent_of(cy, n, m);
     let short = is_short(x, y, limit);
-    Piece { x: x, y: y, short: short }
+    Piece {
+        x: x,
+        y: y,
+        short: short,
+    }
 }

@@ -1,21 +1,20 @@
 -- The measure is the halvings that are left. `both` joins what the two calls leave in their parts. Assumes nothing.
 use mathlib.Core.Path.{_≡_, refl, sym, ap, ap₂, _∙_, subst}
-use mathlib.Core.Bool.{true, false}
-use mathlib.Core.List.{List, _++_}
+use mathlib.Core.List.{_++_}
 use Prim.Native.Nat.{suc, _+_, _*_, _-_, _≤_}
 use native.Mathlib.Omega.{arith}
 use borrow.Author.Needs.{needs}
 use mir.Facts.{toZ-ofZ}
 use lib.ListN.{length, drop, length-drop}
-use Rattle.sequences.specs.Parts.{tail-mid, tail-put}
+use Rattle.sequences.specs.Parts.{tail-mid}
 use Rattle.model.specs.Strips.{Side, Strip}
-use Rattle.model.specs.Trees.{Tree, leaf, long, node, isLong}
+use Rattle.model.specs.Trees.{Tree}
 use Rattle.model.specs.Store.{width, size, flatten}
 use Rattle.ranges.specs.Sizes.{SideSized}
 use Rattle.ranges.specs.PowerForm.{by-sized}
 use Rattle.subtrees.specs.Preorder.{size-pos}
 use Rattle.subtrees.specs.Subtrees.{stripBy, shortBy, subtree}
-use Rattle.subtrees.specs.Halving.{Halvable, at-short, few, n-in, left-half, right-half, Forked, forked}
+use Rattle.subtrees.specs.Halving.{at-short, few, n-in, left-half, right-half, Forked, forked}
 use Rattle.strips.specs.Structs.{form, side, stripOf}
 use Rattle.building.proofs.Halves.{both, put-eq}
 use Prim.Native.Nat.{ℕ, _<_}
@@ -86,15 +85,19 @@ few-at t c =
     let s = e .before .before .before .before in
     let p = s .pre .1 .2 in
     let z = fork-at t e .more in
-    omega (arith, left-is t b, right-is t (c .before),
+    omega (
+      arith,
+      left-is t b,
+      right-is t (c .before),
       few (s .args .limit) (form (s .args .cx)) (form (s .args .cy)) (s .args .left - 1) (2 * s .args .n) (2 * s .args .m - 1) (left-half p z),
-      few (s .args .limit) (form (s .args .cx)) (form (s .args .cy)) (s .args .left - 1) (2 * s .args .n) (2 * s .args .m + 1) (right-half p z))
+      few (s .args .limit) (form (s .args .cx)) (form (s .args .cy)) (s .args .left - 1) (2 * s .args .n) (2 * s .args .m + 1) (right-half p z),
+    )
 
 build-piece-of-requires : (t : ℕ) → build-lts.Need-piece-of-requires (callees t) (build-at t) build.Post
 build-piece-of-requires t c κs = let p = c .pre .1 in (p .0, p .1, p .2 .two, n-in (p .2), omega (arith, p .2 .high))
 
 build-put-requires : (t : ℕ) → build-lts.Need-put-requires (callees t) (build-at t) build.Post
-build-put-requires t c κs = 
+build-put-requires t c κs =
     let a = c .before .before .before .before in
     let s = a .before in
     (omega (arith, size-pos (whole-of t s), s .pre .1 .4), x-sized t a, y-sized t a, omega arith)
@@ -103,7 +106,7 @@ build-same-length : (t : ℕ) → build-lts.Need-same-length (callees t) (build-
 build-same-length t c = search needs
 
 build-returns : (t : ℕ) → build-lts.Need-returns (callees t) (build-at t) build.Post
-build-returns t c = 
+build-returns t c =
     let a = c .before .before .before .before .before .before in
     let s = a .before in
     let e = sym (short-is t a) ∙ c .before .before .before .if1 .taken in
@@ -131,7 +134,7 @@ build-sub-build-3 : (t : ℕ) → build-lts.Need-sub-build-3 (callees t) (build-
 build-sub-build-3 t c = omega (arith, c .before .before .before .before .before .pre .1 .2 .low)
 
 build-build-requires : (t : ℕ) → build-lts.Need-build-requires (callees t) (build-at t) build.Post
-build-build-requires t c κs = 
+build-build-requires t c κs =
     let e = c .before in
     let s = e .before .before .before .before in
     let p = s .pre .1 in
@@ -170,7 +173,7 @@ build-add-build : (t : ℕ) → build-lts.Need-add-build (callees t) (build-at t
 build-add-build t c = omega (arith, n-in (c .before .before .before .before .before .before .before .before .pre .1 .2), c .before .before .before .before .before .before .before .before .pre .1 .2 .high)
 
 build-build-requires-2 : (t : ℕ) → build-lts.Need-build-requires-2 (callees t) (build-at t) build.Post
-build-build-requires-2 t c κs = 
+build-build-requires-2 t c κs =
     let b = c .before .before in
     let e = b .before .before in
     let s = e .before .before .before .before in
@@ -186,7 +189,7 @@ build-add-nodes-2 : (t : ℕ) → build-lts.Need-add-nodes-2 (callees t) (build-
 build-add-nodes-2 t c = omega (arith, few-at t c)
 
 build-put-requires-2 : (t : ℕ) → build-lts.Need-put-requires-2 (callees t) (build-at t) build.Post
-build-put-requires-2 t c κs = 
+build-put-requires-2 t c κs =
     let e = c .before .before .before .before .before .before .before in
     let a = e .before .before .before in
     (omega (arith, c .before .s3 .given, c .before .before .before .before .s2 .given, room t e), x-sized t a, y-sized t a, few-at t (c .before))
@@ -195,7 +198,7 @@ build-same-length-2 : (t : ℕ) → build-lts.Need-same-length-2 (callees t) (bu
 build-same-length-2 t c = search needs
 
 build-returns-2 : (t : ℕ) → build-lts.Need-returns-2 (callees t) (build-at t) build.Post
-build-returns-2 t c = 
+build-returns-2 t c =
     let q = c .before .before .before .before in
     let b = q .before .before .before in
     let e = b .before .before in

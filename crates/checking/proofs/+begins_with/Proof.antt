@@ -1,23 +1,20 @@
 -- The measure is the halvings that are left. Each return is one of the answers of `Found`. Assumes nothing.
-use mathlib.Core.Path.{_≡_, refl, sym, ap, ap₂, _∙_, subst}
-use mathlib.Core.Bool.{true, false}
-use mathlib.Core.Logic.{_⊎_, inl, inr}
-use mathlib.Core.List.{List, _++_}
+use mathlib.Core.Path.{_≡_, sym, ap, ap₂, _∙_, subst}
 use Prim.Native.Nat.{suc, _+_, _*_, _-_, _≤_}
 use native.Mathlib.Omega.{arith}
 use mir.Facts.{toZ-ofZ}
-use lib.IntN.{ℤ, pos}
+use lib.IntN.{pos}
 use lib.ListN.{length, getD, drop, length-drop}
 use Rattle.model.specs.Strips.{Side, Strip}
-use Rattle.model.specs.Trees.{Tree, leaf, long, node, isLong}
+use Rattle.model.specs.Trees.{Tree}
 use Rattle.model.specs.Store.{width, size}
 use Rattle.ranges.specs.Sizes.{SideSized}
 use Rattle.ranges.specs.PowerForm.{by-sized}
 use Rattle.subtrees.specs.Preorder.{size-pos, tail, countPlace, HasStrip, Begins}
 use Rattle.subtrees.specs.Subtrees.{stripBy, shortBy, subtree}
-use Rattle.subtrees.specs.Halving.{Halvable, at-short, few, n-in, left-half, right-half, Forked, forked}
-use Rattle.strips.specs.Structs.{form, side, stripOf}
-use Rattle.checking.specs.Answers.{Unless, Told, unless-true, unless-false, refused, granted}
+use Rattle.subtrees.specs.Halving.{at-short, few, n-in, left-half, right-half, Forked, forked}
+use Rattle.strips.specs.Structs.{form, stripOf}
+use Rattle.checking.specs.Answers.{Told, unless-true, unless-false, refused, granted}
 use Rattle.checking.proofs.Found.{no-strip, no-count, yes-leaf, no-left, no-right, yes-node}
 use Prim.Native.Nat.{ℕ, _<_}
 use borrow.Fn.Kinds.{In}
@@ -104,26 +101,30 @@ few-at t c =
     let s = e .before .before .before .before .before .before in
     let p = s .pre .1 .2 in
     let z = fork-at t e .more in
-    omega (arith, left-is t b .0, right-is t c .0,
+    omega (
+      arith,
+      left-is t b .0,
+      right-is t c .0,
       few (s .args .limit) (form (s .args .cx)) (form (s .args .cy)) (s .args .left - 1) (2 * s .args .n) (2 * s .args .m - 1) (left-half p z),
-      few (s .args .limit) (form (s .args .cx)) (form (s .args .cy)) (s .args .left - 1) (2 * s .args .n) (2 * s .args .m + 1) (right-half p z))
+      few (s .args .limit) (form (s .args .cx)) (form (s .args .cy)) (s .args .left - 1) (2 * s .args .n) (2 * s .args .m + 1) (right-half p z),
+    )
 
 begins-with-piece-of-requires : (t : ℕ) → begins-with-lts.Need-piece-of-requires (callees t) (begins-with-at t) begins-with.Post
 begins-with-piece-of-requires t c κs = let p = c .pre .1 in (p .0, p .1, p .2 .two, n-in (p .2), omega (arith, p .2 .high))
 
 begins-with-differs-strip-requires : (t : ℕ) → begins-with-lts.Need-differs-strip-requires (callees t) (begins-with-at t) begins-with.Post
-begins-with-differs-strip-requires t c κs = 
+begins-with-differs-strip-requires t c κs =
     let a = c .before .before in
     let s = a .before in
     let p = s .pre .1 in
-    let k = n-in (p .2) in
-    ( seven t s
-    , subst SideSized (sym (a .piece-of .ensures .0 .0)) (by-sized (form (s .args .cx)) (s .args .n) (s .args .m) (p .0) (p .2 .two) (omega (arith, p .2 .high)))
-    , subst SideSized (sym (a .piece-of .ensures .0 .1)) (by-sized (form (s .args .cy)) (s .args .n) (s .args .m) (p .1) (p .2 .two) (omega (arith, p .2 .high)))
+    let k = n-in (p .2) in (
+      seven t s,
+      subst SideSized (sym (a .piece-of .ensures .0 .0)) (by-sized (form (s .args .cx)) (s .args .n) (s .args .m) (p .0) (p .2 .two) (omega (arith, p .2 .high))),
+      subst SideSized (sym (a .piece-of .ensures .0 .1)) (by-sized (form (s .args .cy)) (s .args .n) (s .args .m) (p .1) (p .2 .two) (omega (arith, p .2 .high))),
     )
 
 begins-with-returns : (t : ℕ) → begins-with-lts.Need-returns (callees t) (begins-with-at t) begins-with.Post
-begins-with-returns t c = 
+begins-with-returns t c =
     let s = c .before .before .before .before .before in
     let a = c .before .before .before .before in
     no-strip (s .args .limit) (form (s .args .cx)) (form (s .args .cy)) (s .args .left) (s .args .n) (s .args .m) (stripOf (a .piece-of .result .x) (a .piece-of .result .y)) (strip-is t a) (s .args .s .now) (unless-true (c .before .differs-strip .result) (HasStrip (s .args .s .now) (stripOf (a .piece-of .result .x) (a .piece-of .result .y))) (c .before .differs-strip .ensures) (c .if1 .taken))
@@ -132,13 +133,13 @@ begins-with-differs-count-requires : (t : ℕ) → begins-with-lts.Need-differs-
 begins-with-differs-count-requires t c κs = (seven t (c .before .before .before .before .before .before), omega arith)
 
 begins-with-returns-2 : (t : ℕ) → begins-with-lts.Need-returns-2 (callees t) (begins-with-at t) begins-with.Post
-begins-with-returns-2 t c = 
+begins-with-returns-2 t c =
     let s = c .before .before .before .before .before .before .before .before in
     let a = c .before .before .before .before .before .before .before in
     no-count (s .args .limit) (form (s .args .cx)) (form (s .args .cy)) (s .args .left) (s .args .n) (s .args .m) (stripOf (a .piece-of .result .x) (a .piece-of .result .y)) (strip-is t a) (s .args .s .now) 1 (ap size (at-short (s .args .limit) (form (s .args .cx)) (form (s .args .cy)) (s .args .left) (s .args .n) (s .args .m) (sym (short-is t a) ∙ c .before .before .if2 .taken))) (unless-true (c .before .differs-count .result) (getD (s .args .s .now) countPlace (pos 0) ≡ pos 1) (c .before .differs-count .ensures) (c .if3 .taken))
 
 begins-with-returns-3 : (t : ℕ) → begins-with-lts.Need-returns-3 (callees t) (begins-with-at t) begins-with.Post
-begins-with-returns-3 t c = 
+begins-with-returns-3 t c =
     let s = c .before .before .before .before .before .before .before .before in
     let a = c .before .before .before .before .before .before .before in
     yes-leaf (s .args .limit) (form (s .args .cx)) (form (s .args .cy)) (s .args .left) (s .args .n) (s .args .m) (stripOf (a .piece-of .result .x) (a .piece-of .result .y)) (strip-is t a) (s .args .s .now) (sym (short-is t a) ∙ c .before .before .if2 .taken) (seven t s) (strip-at t (c .before .before .before)) (unless-false (c .before .differs-count .result) (getD (s .args .s .now) countPlace (pos 0) ≡ pos 1) (c .before .differs-count .ensures) (c .if3 .left))
@@ -165,7 +166,7 @@ begins-with-sub-begins-with-3 : (t : ℕ) → begins-with-lts.Need-sub-begins-wi
 begins-with-sub-begins-with-3 t c = omega (arith, c .before .before .before .before .before .before .before .pre .1 .2 .low)
 
 begins-with-begins-with-requires : (t : ℕ) → begins-with-lts.Need-begins-with-requires (callees t) (begins-with-at t) begins-with.Post
-begins-with-begins-with-requires t c κs = 
+begins-with-begins-with-requires t c κs =
     let e = c .before in
     let s = c .before .before .before .before .before .before .before in
     let p = s .pre .1 in
@@ -174,7 +175,7 @@ begins-with-begins-with-requires t c κs =
     (omega (arith, s .pre .0, f .more), (p .0, p .1, left-half (p .2) (f .more), f .left-ok, rw (tail width (s .args .s .now)) (simp length-drop (omega (arith, room t e)))))
 
 begins-with-returns-4 : (t : ℕ) → begins-with-lts.Need-returns-4 (callees t) (begins-with-at t) begins-with.Post
-begins-with-returns-4 t c = 
+begins-with-returns-4 t c =
     let s = c .before .before .before .before .before .before .before .before .before in
     let a = c .before .before .before .before .before .before .before .before in
     no-left (s .args .limit) (form (s .args .cx)) (form (s .args .cy)) (s .args .left) (s .args .n) (s .args .m) (stripOf (a .piece-of .result .x) (a .piece-of .result .y)) (strip-is t a) (s .args .s .now) (fork-at t (c .before .before .before)) (refused (c .before .begins-with .result) (size (left-of t s)) (Begins (left-of t s) (drop width (s .args .s .now))) (left-told t (c .before)) (size-pos (left-of t s)) (c .if4 .taken))
@@ -210,7 +211,7 @@ begins-with-add-begins-with : (t : ℕ) → begins-with-lts.Need-add-begins-with
 begins-with-add-begins-with t c = omega (arith, n-in (c .before .before .before .before .before .before .before .before .before .before .pre .1 .2), c .before .before .before .before .before .before .before .before .before .before .pre .1 .2 .high)
 
 begins-with-begins-with-requires-2 : (t : ℕ) → begins-with-lts.Need-begins-with-requires-2 (callees t) (begins-with-at t) begins-with.Post
-begins-with-begins-with-requires-2 t c κs = 
+begins-with-begins-with-requires-2 t c κs =
     let b = c .before in
     let e = b .before .before .before in
     let s = c .before .before .before .before .before .before .before .before .before .before in
@@ -220,7 +221,7 @@ begins-with-begins-with-requires-2 t c κs =
     (omega (arith, s .pre .0, f .more), (p .0, p .1, right-half (p .2) (f .more), f .right-ok, rw (tail (width + width * b .before .begins-with .result) (s .args .s .now)) (simp length-drop (omega (arith, room t e, left-is t b .0)))))
 
 begins-with-returns-5 : (t : ℕ) → begins-with-lts.Need-returns-5 (callees t) (begins-with-at t) begins-with.Post
-begins-with-returns-5 t c = 
+begins-with-returns-5 t c =
     let s = c .before .before .before .before .before .before .before .before .before .before .before .before in
     let a = c .before .before .before .before .before .before .before .before .before .before .before in
     no-right (s .args .limit) (form (s .args .cx)) (form (s .args .cy)) (s .args .left) (s .args .n) (s .args .m) (stripOf (a .piece-of .result .x) (a .piece-of .result .y)) (strip-is t a) (s .args .s .now) (fork-at t (c .before .before .before .before .before .before)) (refused (c .before .begins-with2 .result) (size (right-of t s)) (Begins (right-of t s) (drop (width + width * size (left-of t s)) (s .args .s .now))) (right-told t (c .before)) (size-pos (right-of t s)) (c .if5 .taken))
@@ -235,7 +236,7 @@ begins-with-differs-count-requires-2 : (t : ℕ) → begins-with-lts.Need-differ
 begins-with-differs-count-requires-2 t c κs = (seven t (c .before .before .before .before .before .before .before .before .before .before .before .before), few-at t c)
 
 begins-with-returns-6 : (t : ℕ) → begins-with-lts.Need-returns-6 (callees t) (begins-with-at t) begins-with.Post
-begins-with-returns-6 t c = 
+begins-with-returns-6 t c =
     let d = c .before .before in
     let b = d .before .before .before in
     let n : 1 + b .before .begins-with .result + d .before .begins-with2 .result ≡ suc (size (left-of t (c .before .before .before .before .before .before .before .before .before .before .before .before .before .before)) + size (right-of t (c .before .before .before .before .before .before .before .before .before .before .before .before .before .before))) = omega (arith, left-is t b .0, right-is t d .0) in
@@ -245,7 +246,7 @@ begins-with-returns-6 t c =
     no-count (s .args .limit) (form (s .args .cx)) (form (s .args .cy)) (s .args .left) (s .args .n) (s .args .m) (stripOf (a .piece-of .result .x) (a .piece-of .result .y)) (strip-is t a) (s .args .s .now) (suc (size (left-of t s) + size (right-of t s))) (ap size (fork-at t (c .before .before .before .before .before .before .before .before) .is)) (unless-true (c .before .differs-count2 .result) (getD (s .args .s .now) countPlace (pos 0) ≡ pos (suc (size (left-of t s) + size (right-of t s)))) u (c .if6 .taken))
 
 begins-with-returns-7 : (t : ℕ) → begins-with-lts.Need-returns-7 (callees t) (begins-with-at t) begins-with.Post
-begins-with-returns-7 t c = 
+begins-with-returns-7 t c =
     let d = c .before .before in
     let b = d .before .before .before in
     let n : 1 + b .before .begins-with .result + d .before .begins-with2 .result ≡ suc (size (left-of t (c .before .before .before .before .before .before .before .before .before .before .before .before .before .before)) + size (right-of t (c .before .before .before .before .before .before .before .before .before .before .before .before .before .before))) = omega (arith, left-is t b .0, right-is t d .0) in

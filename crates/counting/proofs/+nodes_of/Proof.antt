@@ -1,11 +1,10 @@
 -- The measure is the halvings that are left. The subtree by the tests that the code made is `at-short`, `at-long` or `at-node`. Assumes nothing.
-use mathlib.Core.Path.{_≡_, refl, sym, ap, _∙_}
-use mathlib.Core.Bool.{true, false}
-use Prim.Native.Nat.{_+_, _*_, _-_, _≤_}
+use mathlib.Core.Path.{_≡_, sym, _∙_}
+use Prim.Native.Nat.{_+_, _*_, _-_}
 use native.Mathlib.Omega.{arith}
 use mir.Facts.{toZ-ofZ}
-use Rattle.model.specs.Trees.{Tree, leaf, long, node}
-use Rattle.subtrees.specs.Subtrees.{stripBy, shortBy, subtree}
+use Rattle.model.specs.Trees.{Tree, node}
+use Rattle.subtrees.specs.Subtrees.{stripBy, subtree}
 use Rattle.subtrees.specs.Halving.{at-short, at-long, at-node, few, n-in, left-half, right-half}
 use Rattle.subtrees.specs.Counts.{count, kept, count-left, count-right, count-both}
 use Rattle.strips.specs.Structs.{form}
@@ -55,13 +54,13 @@ nodes-of-piece-of-requires : (t : ℕ) → nodes-of-lts.Need-piece-of-requires (
 nodes-of-piece-of-requires t c κs = let p = c .pre .1 in (p .0, p .1, p .2 .two, n-in (p .2), omega (arith, p .2 .high))
 
 nodes-of-returns : (t : ℕ) → nodes-of-lts.Need-returns (callees t) (nodes-of-at t) nodes-of.Post
-nodes-of-returns t c = 
+nodes-of-returns t c =
     let s = c .before .before in
     let e = rw (toZ-ofZ (s .fits .limit), c .if1 .taken) at (c .before .piece-of .ensures .1) in
     rw (at-short (s .args .limit) (form (s .args .cx)) (form (s .args .cy)) (s .args .left) (s .args .n) (s .args .m) (sym e))
 
 nodes-of-returns-2 : (t : ℕ) → nodes-of-lts.Need-returns-2 (callees t) (nodes-of-at t) nodes-of.Post
-nodes-of-returns-2 t c = 
+nodes-of-returns-2 t c =
     let s = c .before .before .before in
     let e = rw (toZ-ofZ (s .fits .limit), c .before .if1 .left) at (c .before .before .piece-of .ensures .1) in
     rw (at-long (s .args .limit) (form (s .args .cx)) (form (s .args .cy)) (s .args .left) (s .args .n) (s .args .m) (sym e) (c .if2 .taken))
@@ -82,7 +81,7 @@ nodes-of-nodes-of-requires : (t : ℕ) → nodes-of-lts.Need-nodes-of-requires (
 nodes-of-nodes-of-requires t c κs = let s = c .before .before .before in let p = s .pre .1 in (omega (arith, s .pre .0, c .if2 .left), (p .0, p .1, left-half (p .2) (c .if2 .left)))
 
 nodes-of-returns-3 : (t : ℕ) → nodes-of-lts.Need-returns-3 (callees t) (nodes-of-at t) nodes-of.Post
-nodes-of-returns-3 t c = 
+nodes-of-returns-3 t c =
     let a = c .before in
     let s = a .before .before .before .before in
     rw (node-at t (a .before)) (sym (count-left (stripBy (form (s .args .cx)) (form (s .args .cy)) (s .args .n) (s .args .m)) (left-of t s) (right-of t s) (sym (left-is t a) ∙ c .if3 .taken)))
@@ -103,14 +102,14 @@ nodes-of-nodes-of-requires-2 : (t : ℕ) → nodes-of-lts.Need-nodes-of-requires
 nodes-of-nodes-of-requires-2 t c κs = let s = c .before .before .before .before .before in let p = s .pre .1 in let z = c .before .before .if2 .left in (omega (arith, s .pre .0, z), (p .0, p .1, right-half (p .2) z))
 
 nodes-of-returns-4 : (t : ℕ) → nodes-of-lts.Need-returns-4 (callees t) (nodes-of-at t) nodes-of.Post
-nodes-of-returns-4 t c = 
+nodes-of-returns-4 t c =
     let b = c .before in
     let a = b .before .before in
     let s = a .before .before .before .before in
     rw (node-at t (a .before)) (sym (count-right (stripBy (form (s .args .cx)) (form (s .args .cy)) (s .args .n) (s .args .m)) (left-of t s) (right-of t s) (sym (right-is t b) ∙ c .if4 .taken)))
 
 nodes-of-add-result : (t : ℕ) → nodes-of-lts.Need-add-result (callees t) (nodes-of-at t) nodes-of.Post
-nodes-of-add-result t c = 
+nodes-of-add-result t c =
     let b = c .before in
     let a = b .before .before in
     let s = a .before .before .before .before in
@@ -123,7 +122,7 @@ nodes-of-add-result t c =
     omega (arith, h, k, d .1, g .1, left-is t a, right-is t b)
 
 nodes-of-add-result-2 : (t : ℕ) → nodes-of-lts.Need-add-result-2 (callees t) (nodes-of-at t) nodes-of.Post
-nodes-of-add-result-2 t c = 
+nodes-of-add-result-2 t c =
     let b = c .before in
     let a = b .before .before in
     let s = a .before .before .before .before in
@@ -136,7 +135,7 @@ nodes-of-add-result-2 t c =
     omega (arith, h, k, d .1, g .1, left-is t a, right-is t b)
 
 nodes-of-returns-5 : (t : ℕ) → nodes-of-lts.Need-returns-5 (callees t) (nodes-of-at t) nodes-of.Post
-nodes-of-returns-5 t c = 
+nodes-of-returns-5 t c =
     let b = c .before in
     let a = b .before .before in
     let s = a .before .before .before .before in

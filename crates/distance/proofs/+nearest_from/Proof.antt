@@ -1,21 +1,20 @@
 -- The measure is the edges that are left. The stored count of the first tree says where its part ends. Assumes nothing.
-use mathlib.Core.Path.{_≡_, refl, sym, ap, _∙_, subst}
-use mathlib.Core.List.{List, [], _∷_}
+use mathlib.Core.Path.{_≡_, refl}
+use mathlib.Core.List.{List, _∷_}
 use Prim.Native.Nat.{suc, _+_, _*_, _-_, _≤_}
 use native.Mathlib.Omega.{arith}
-use lib.IntN.{ℤ, pos, natAbs}
-use lib.ListN.{length, getD, take, drop}
+use lib.IntN.{ℤ, natAbs}
+use lib.ListN.{length, drop}
 use mir.Syntax.{w64}
 use mir.Val.{toZ, ofZ}
 use mir.Facts.{toZ-ofZ}
 use Rattle.integers.specs.Signed.{read64}
 use Rattle.model.specs.Trees.{Tree}
-use Rattle.model.specs.Store.{width, size, flatten}
+use Rattle.model.specs.Store.{width, size}
 use Rattle.model.specs.Explore.{Cell}
 use Rattle.model.specs.Distance.{leaves}
-use Rattle.subtrees.specs.Preorder.{tail, countPlace, Begins, BeginsAll, all-first, all-others, all-yes}
-use Rattle.distance.specs.declared.Found.{Found}
-use Rattle.distance.specs.Answers.{pointAt, BoundsOf, FoundIn, TreesOf}
+use Rattle.subtrees.specs.Preorder.{tail, Begins, BeginsAll, all-first, all-others, all-yes}
+use Rattle.distance.specs.Answers.{pointAt, BoundsOf, FoundIn}
 use Rattle.distance.proofs.Edges.{First, first-of, room, front, counted, size-read, first-part, last-edge, more-edges, edge-below}
 use Prim.Native.Nat.{ℕ, _<_}
 use borrow.Fn.Kinds.{In}
@@ -100,14 +99,14 @@ nearest-from-part-tree-bounds-end : (t : ℕ) → nearest-from-lts.Need-part-tre
 nearest-from-part-tree-bounds-end t c = omega (arith, long-at t c)
 
 nearest-from-tree-bounds-requires : (t : ℕ) → nearest-from-lts.Need-tree-bounds-requires (callees t) (nearest-from-at t) nearest-from.Post
-nearest-from-tree-bounds-requires t c κs = 
+nearest-from-tree-bounds-requires t c κs =
     let m = c .before in
     let s = m .before in
     let f = start t s in
     (record { tree = f .first; is = first-part (f .first) (list t s) (m .count-at .result) (f .begins) (read-is t m (f .first) (f .begins)); sized = f .first-sized }, x-in t s, y-in t s)
 
 nearest-from-returns : (t : ℕ) → nearest-from-lts.Need-returns (callees t) (nearest-from-at t) nearest-from.Post
-nearest-from-returns t c = 
+nearest-from-returns t c =
     let i = c .before .before in
     let a = i .before in
     let s = a .before .before .before in
@@ -130,26 +129,26 @@ nearest-from-sub-nearest-from-2 : (t : ℕ) → nearest-from-lts.Need-sub-neares
 nearest-from-sub-nearest-from-2 t c = omega (arith, c .before .before .before .before .before .pre .1 .1)
 
 nearest-from-nearest-from-requires : (t : ℕ) → nearest-from-lts.Need-nearest-from-requires (callees t) (nearest-from-at t) nearest-from.Post
-nearest-from-nearest-from-requires t c κs = 
+nearest-from-nearest-from-requires t c κs =
     let m = c .before .before .before .before in
     let s = m .before in
     let p = s .pre .1 in
     let f = start t s in
     let n = read-is t m (f .first) (f .begins) in
-    let d : BeginsAll (f .others) (drop (width * m .count-at .result) (list t s)) = rw n (f .later) in
-    ( omega (arith, s .pre .0, p .1)
-    , (record { trees = f .others; many = omega (arith, f .many); is = rw (tail (width * m .count-at .result) (list t s)) d; sized = f .others-sized }, omega (arith, p .1, c .before .if1 .left), omega (arith, p .2), x-in t s, y-in t s)
+    let d : BeginsAll (f .others) (drop (width * m .count-at .result) (list t s)) = rw n (f .later) in (
+      omega (arith, s .pre .0, p .1),
+      (record { trees = f .others; many = omega (arith, f .many); is = rw (tail (width * m .count-at .result) (list t s)) d; sized = f .others-sized }, omega (arith, p .1, c .before .if1 .left), omega (arith, p .2), x-in t s, y-in t s),
     )
 
 nearest-from-join-edge-requires : (t : ℕ) → nearest-from-lts.Need-join-edge-requires (callees t) (nearest-from-at t) nearest-from.Post
-nearest-from-join-edge-requires t c κs = 
+nearest-from-join-edge-requires t c κs =
     let s = c .before .before .before .before .before .before in
     let f = start t s in
     let k = later-is t c (f .first) (f .others) (f .many) (all-yes (f .first) (f .others) (list t s) (f .begins) (f .later)) in
     omega (arith, edge-below (point t s) (f .others) (c .nearest-from .result) k, f .many, s .pre .1 .2)
 
 nearest-from-returns-2 : (t : ℕ) → nearest-from-lts.Need-returns-2 (callees t) (nearest-from-at t) nearest-from.Post
-nearest-from-returns-2 t c = 
+nearest-from-returns-2 t c =
     let n = c .before in
     let i = n .before .before in
     let a = i .before in

@@ -1,5 +1,5 @@
 -- The measure is the tree's node count. Assumes nothing.
-use mathlib.Core.Path.{_≡_, sym, ap, _∙_}
+use mathlib.Core.Path.{_≡_, sym, _∙_}
 use mathlib.Core.List.{List}
 use Prim.Native.Nat.{_+_, _*_, _-_, _≤_}
 use native.Mathlib.Omega.{arith}
@@ -100,7 +100,7 @@ tree-bounds-part-tree-bounds-end : (t : ℕ) → tree-bounds-lts.Need-part-tree-
 tree-bounds-part-tree-bounds-end t c = omega (arith, counts t c .has .long)
 
 tree-bounds-tree-bounds-requires : (t : ℕ) → tree-bounds-lts.Need-tree-bounds-requires (callees t) (tree-bounds-at t) tree-bounds.Post
-tree-bounds-tree-bounds-requires t c κs = 
+tree-bounds-tree-bounds-requires t c κs =
     let k = counts t (c .before) in
     let s = c .before .before .before .before in
     (below (k .left) _ t (k .has .part-left) (omega (arith, k .has .k-is)), (record { tree = k .left; is = k .has .part-left; sized = k .left-sized }, x-in t s, y-in t s))
@@ -118,7 +118,7 @@ tree-bounds-part-tree-bounds-end-2 : (t : ℕ) → tree-bounds-lts.Need-part-tre
 tree-bounds-part-tree-bounds-end-2 t c = omega arith
 
 tree-bounds-tree-bounds-requires-2 : (t : ℕ) → tree-bounds-lts.Need-tree-bounds-requires-2 (callees t) (tree-bounds-at t) tree-bounds.Post
-tree-bounds-tree-bounds-requires-2 t c κs = 
+tree-bounds-tree-bounds-requires-2 t c κs =
     let k = counts t (c .before .before .before) in
     let s = c .before .before .before .before .before .before in
     (below (k .right) _ t (k .has .part-right) (omega (arith, k .has .k-is)), (record { tree = k .right; is = k .has .part-right; sized = k .right-sized }, x-in t s, y-in t s))
@@ -127,7 +127,7 @@ tree-bounds-join-requires : (t : ℕ) → tree-bounds-lts.Need-join-requires (ca
 tree-bounds-join-requires t c κs = tt
 
 tree-bounds-returns-2 : (t : ℕ) → tree-bounds-lts.Need-returns-2 (callees t) (tree-bounds-at t) tree-bounds.Post
-tree-bounds-returns-2 t c = 
+tree-bounds-returns-2 t c =
     let m = c .before .before .before .before .before in
     let s = m .before .before .before in
     at-node (point t s) (c .join .result) (list t s) (m .count-at2 .result) (not-one t (m .before)) (m .count-at2 .ensures)

@@ -1,5 +1,5 @@
 -- By the test of the upper bounds. Assumes nothing.
-use mathlib.Core.Path.{_≡_, refl, ap₂, _∙_}
+use mathlib.Core.Path.{refl, ap₂, _∙_}
 use borrow.Author.Needs.{needs}
 use Rattle.integers.specs.Signed.{read64}
 use Rattle.model.specs.Distance.{lesser}

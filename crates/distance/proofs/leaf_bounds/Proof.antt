@@ -1,5 +1,5 @@
 -- Both coordinates' ranges, squared. Assumes nothing.
-use mathlib.Core.Path.{_≡_, ap₂, _∙_}
+use mathlib.Core.Path.{ap₂, _∙_}
 use borrow.Author.Needs.{needs}
 use mir.Facts.{toZ-ofZ}
 use Rattle.integers.specs.Signed.{read64, held, back}
@@ -42,9 +42,9 @@ returns c =
     let near-h = held (d .before .range-of .result .near) (h d .near-size) tt in
     let near-v = held (d .range-of2 .result .near) (v d .near-size) tt in
     let far-h = held (d .before .range-of .result .far) (h d .far-size) tt in
-    let far-v = held (d .range-of2 .result .far) (v d .far-size) tt in
-    ( read64 (l .sum-of-squares .result) (l .sum-of-squares .ok) ∙ l .sum-of-squares .ensures ∙ ap₂ squares (back near-h ∙ h d .near-is) (back near-v ∙ v d .near-is)
-    , read64 (c .sum-of-squares2 .result) (c .sum-of-squares2 .ok) ∙ c .sum-of-squares2 .ensures ∙ ap₂ squares (back far-h ∙ h d .far-is) (back far-v ∙ v d .far-is)
+    let far-v = held (d .range-of2 .result .far) (v d .far-size) tt in (
+      read64 (l .sum-of-squares .result) (l .sum-of-squares .ok) ∙ l .sum-of-squares .ensures ∙ ap₂ squares (back near-h ∙ h d .near-is) (back near-v ∙ v d .near-is),
+      read64 (c .sum-of-squares2 .result) (c .sum-of-squares2 .ok) ∙ c .sum-of-squares2 .ensures ∙ ap₂ squares (back far-h ∙ h d .far-is) (back far-v ∙ v d .far-is),
     )
 
 pub leaf-bounds-spec : {M : Type 1} → statement M

@@ -1,5 +1,4 @@
 -- A coordinate in fine units is 16 times itself. Assumes nothing.
-use mathlib.Core.Path.{_≡_}
 use Prim.Native.Nat.{_≤_}
 use lib.IntN.{ℤ, pos, natAbs, _*ℤ_}
 use mir.Syntax.{w32, w64}

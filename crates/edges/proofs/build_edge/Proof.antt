@@ -34,12 +34,12 @@ mul-build c = let s = c .before .before .before in limit (s .args .grain) (s .pr
 build-requires : tie.Need-build-requires
 build-requires c κs =
     let d = c .before in
-    let s = d .before .before in
-    ( x-form (s .args .places .now) (s .args .e) (form (d .before .power-of .result)) (s .pre .0) (d .before .power-of .ensures)
-    , y-form (s .args .places .now) (s .args .e) (form (d .power-of2 .result)) (s .pre .0) (d .power-of2 .ensures)
-    , whole-edge
-    , ap isLong (whole d) ∙ s .pre .3
-    , omega (arith, ap size (whole d), s .pre .4)
+    let s = d .before .before in (
+      x-form (s .args .places .now) (s .args .e) (form (d .before .power-of .result)) (s .pre .0) (d .before .power-of .ensures),
+      y-form (s .args .places .now) (s .args .e) (form (d .power-of2 .result)) (s .pre .0) (d .power-of2 .ensures),
+      whole-edge,
+      ap isLong (whole d) ∙ s .pre .3,
+      omega (arith, ap size (whole d), s .pre .4),
     )
 
 same-length : tie.Need-same-length

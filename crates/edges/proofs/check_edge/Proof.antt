@@ -33,12 +33,12 @@ mul-begins-with c = let s = c .before .before in limit (s .args .grain) (s .pre 
 
 begins-with-requires : tie.Need-begins-with-requires
 begins-with-requires c κs =
-    let s = c .before .before in
-    ( x-form (s .args .places .now) (s .args .e) (form (c .before .power-of .result)) (s .pre .0) (c .before .power-of .ensures)
-    , y-form (s .args .places .now) (s .args .e) (form (c .power-of2 .result)) (s .pre .0) (c .power-of2 .ensures)
-    , whole-edge
-    , ap isLong (whole c) ∙ s .pre .3
-    , omega (arith, ap size (whole c), s .pre .4)
+    let s = c .before .before in (
+      x-form (s .args .places .now) (s .args .e) (form (c .before .power-of .result)) (s .pre .0) (c .before .power-of .ensures),
+      y-form (s .args .places .now) (s .args .e) (form (c .power-of2 .result)) (s .pre .0) (c .power-of2 .ensures),
+      whole-edge,
+      ap isLong (whole c) ∙ s .pre .3,
+      omega (arith, ap size (whole c), s .pre .4),
     )
 
 returns : tie.Need-returns

@@ -1,5 +1,5 @@
 -- The walk that is counted is the model's tree. Assumes nothing.
-use mathlib.Core.Path.{_≡_, ap, _∙_}
+use mathlib.Core.Path.{ap, _∙_}
 use Rattle.integers.specs.Signed.{back}
 use Rattle.subtrees.specs.Halving.{whole-edge}
 use Rattle.subtrees.specs.Counts.{count}
@@ -20,10 +20,10 @@ mul-nodes-of c = let s = c .before .before in limit (s .args .grain) (s .pre .2)
 
 nodes-of-requires : tie.Need-nodes-of-requires
 nodes-of-requires c κs =
-    let s = c .before .before in
-    ( x-form (s .args .places .now) (s .args .e) (form (c .before .power-of .result)) (s .pre .0) (c .before .power-of .ensures)
-    , y-form (s .args .places .now) (s .args .e) (form (c .power-of2 .result)) (s .pre .0) (c .power-of2 .ensures)
-    , whole-edge
+    let s = c .before .before in (
+      x-form (s .args .places .now) (s .args .e) (form (c .before .power-of .result)) (s .pre .0) (c .before .power-of .ensures),
+      y-form (s .args .places .now) (s .args .e) (form (c .power-of2 .result)) (s .pre .0) (c .power-of2 .ensures),
+      whole-edge,
     )
 
 returns : tie.Need-returns

@@ -1,17 +1,14 @@
 -- The measure is the edges that are left. `built` joins the edge's tree and what the later edges leave in their part. Assumes nothing.
-use mathlib.Core.Path.{_≡_, refl, sym, ap, _∙_, subst}
-use mathlib.Core.Bool.{Bool, true, false}
-use mathlib.Core.List.{List, _∷_, _++_}
-use Prim.Native.Nat.{_+_, _*_, _-_, _≤_}
+use mathlib.Core.Path.{_≡_}
+use mathlib.Core.List.{List, _++_}
+use Prim.Native.Nat.{_+_, _*_, _-_}
 use native.Mathlib.Omega.{arith}
 use borrow.Author.Needs.{needs}
-use lib.IntN.{ℤ}
 use lib.ListN.{length, drop, length-drop}
 use mir.Facts.{toZ-ofZ}
 use Rattle.model.specs.Jobs.{edgeAt}
-use Rattle.model.specs.Trees.{Tree, tree, isLong}
-use Rattle.model.specs.Store.{width, size, sizes, flatten}
-
+use Rattle.model.specs.Trees.{Tree, tree}
+use Rattle.model.specs.Store.{width, size, flatten}
 use Rattle.sequences.specs.Parts.{tail-mid}
 use Rattle.subtrees.specs.Sizes.{few-nodes}
 use Rattle.forests.specs.Walk.{treesFrom, end-is}
@@ -66,7 +63,7 @@ build-from-returns : (t : ℕ) → build-from-lts.Need-returns (callees t) (buil
 build-from-returns t c = let s = c .before in rw (end-is (s .args .grain) (s .args .places .now) (s .args .count) (s .args .e) (c .if1 .taken))
 
 build-from-build-edge-requires : (t : ℕ) → build-from-lts.Need-build-edge-requires (callees t) (build-from-at t) build-from.Post
-build-from-build-edge-requires t c κs = 
+build-from-build-edge-requires t c κs =
     let q = c .before in
     let s = q .before in
     let p = s .pre .1 in
@@ -92,22 +89,22 @@ build-from-add-build-from : (t : ℕ) → build-from-lts.Need-add-build-from (ca
 build-from-add-build-from t c = let p = c .before .before .before .before .before .pre .1 in omega (arith, p .1, p .2)
 
 build-from-build-from-requires : (t : ℕ) → build-from-lts.Need-build-from-requires (callees t) (build-from-at t) build-from.Post
-build-from-build-from-requires t c κs = 
+build-from-build-from-requires t c κs =
     let g = c .before .before in
     let q = g .before .before in
     let s = q .before in
     let p = s .pre .1 in
     let d = split-at t q in
-    rw (toZ-ofZ (s .fits .grain))
-    ( omega (arith, s .pre .0, p .1, q .if1 .left)
-    , (p .0, omega (arith, p .1, q .if1 .left), p .2, p .3, d .others-ok, rw (tail-mid (width * g .build-edge .result) (g .build-edge .last .0)) (simp length-drop (omega (arith, built-is t g .0, long-at t g, d .room))))
+    rw (toZ-ofZ (s .fits .grain)) (
+      omega (arith, s .pre .0, p .1, q .if1 .left),
+      (p .0, omega (arith, p .1, q .if1 .left), p .2, p .3, d .others-ok, rw (tail-mid (width * g .build-edge .result) (g .build-edge .last .0)) (simp length-drop (omega (arith, built-is t g .0, long-at t g, d .room)))),
     )
 
 build-from-same-length : (t : ℕ) → build-from-lts.Need-same-length (callees t) (build-from-at t) build-from.Post
 build-from-same-length t c = search needs
 
 build-from-returns-2 : (t : ℕ) → build-from-lts.Need-returns-2 (callees t) (build-from-at t) build-from.Post
-build-from-returns-2 t c = 
+build-from-returns-2 t c =
     let g = c .before .before .before .before in
     let q = g .before .before in
     let s = q .before in

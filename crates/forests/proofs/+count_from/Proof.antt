@@ -1,17 +1,13 @@
 -- The measure is the edges that are left. Assumes nothing.
-use mathlib.Core.Path.{_≡_, refl, sym, ap, _∙_, subst}
-use mathlib.Core.Bool.{Bool, true, false}
-use mathlib.Core.List.{List, _∷_, _++_}
-use Prim.Native.Nat.{_+_, _*_, _-_, _≤_}
+use mathlib.Core.Path.{_≡_, sym, _∙_}
+use mathlib.Core.Bool.{false}
+use mathlib.Core.List.{List}
+use Prim.Native.Nat.{_+_, _-_}
 use native.Mathlib.Omega.{arith}
-use borrow.Author.Needs.{needs}
-use lib.IntN.{ℤ}
-use lib.ListN.{length, drop, length-drop}
 use mir.Facts.{toZ-ofZ}
 use Rattle.model.specs.Jobs.{edgeAt}
 use Rattle.model.specs.Trees.{Tree, tree, isLong}
-use Rattle.model.specs.Store.{width, size, sizes, flatten}
-
+use Rattle.model.specs.Store.{size}
 use Rattle.subtrees.specs.Counts.{count, kept}
 use Rattle.subtrees.specs.Sizes.{few-nodes}
 use Rattle.forests.specs.Walk.{treesFrom, end-is, more-is}
@@ -59,13 +55,13 @@ count-from-returns : (t : ℕ) → count-from-lts.Need-returns (callees t) (coun
 count-from-returns t c = let s = c .before in rw (end-is (s .args .grain) (s .args .places .now) (s .args .count) (s .args .e) (c .if1 .taken)) (omega arith)
 
 count-from-count-edge-requires : (t : ℕ) → count-from-lts.Need-count-edge-requires (callees t) (count-from-at t) count-from.Post
-count-from-count-edge-requires t c κs = 
+count-from-count-edge-requires t c κs =
     let s = c .before in
     let p = s .pre .1 in
     rw (toZ-ofZ (s .fits .grain)) (p .0, omega (arith, p .1, p .2, c .if1 .left), p .3)
 
 count-from-returns-2 : (t : ℕ) → count-from-lts.Need-returns-2 (callees t) (count-from-at t) count-from.Post
-count-from-returns-2 t c = 
+count-from-returns-2 t c =
     let s = c .before .before .before in
     rw (more-is (s .args .grain) (s .args .places .now) (s .args .count) (s .args .e) (s .pre .1 .1) (c .before .before .if1 .left))
     (count-stop (first-of t s) (others-of t s) (s .args .sum) (sym (nodes-is t (c .before)) ∙ c .if2 .taken))
@@ -74,23 +70,23 @@ count-from-add-count-from : (t : ℕ) → count-from-lts.Need-add-count-from (ca
 count-from-add-count-from t c = let p = c .before .before .before .pre .1 in omega (arith, p .1, p .2)
 
 count-from-add-count-from-2 : (t : ℕ) → count-from-lts.Need-add-count-from-2 (callees t) (count-from-at t) count-from.Post
-count-from-add-count-from-2 t c = 
+count-from-add-count-from-2 t c =
     let s = c .before .before .before in
     let p = s .pre .1 in
     omega (arith, p .1, p .2, p .4, kept-at t c .1, few-nodes (s .args .grain) (edgeAt (s .args .places .now) (s .args .e)))
 
 count-from-count-from-requires : (t : ℕ) → count-from-lts.Need-count-from-requires (callees t) (count-from-at t) count-from.Post
-count-from-count-from-requires t c κs = 
+count-from-count-from-requires t c κs =
     let s = c .before .before .before in
     let p = s .pre .1 in
     let q = c .before .before .if1 .left in
-    rw (toZ-ofZ (s .fits .grain))
-    ( omega (arith, s .pre .0, p .1, q)
-    , (p .0, omega (arith, p .1, q), p .2, p .3, omega (arith, p .4, kept-at t c .1, few-nodes (s .args .grain) (edgeAt (s .args .places .now) (s .args .e))))
+    rw (toZ-ofZ (s .fits .grain)) (
+      omega (arith, s .pre .0, p .1, q),
+      (p .0, omega (arith, p .1, q), p .2, p .3, omega (arith, p .4, kept-at t c .1, few-nodes (s .args .grain) (edgeAt (s .args .places .now) (s .args .e)))),
     )
 
 count-from-returns-3 : (t : ℕ) → count-from-lts.Need-returns-3 (callees t) (count-from-at t) count-from.Post
-count-from-returns-3 t c = 
+count-from-returns-3 t c =
     let s = c .before .before .before .before in
     let e = rw (toZ-ofZ (s .fits .grain)) at (c .count-from .ensures) in
     let k = kept-at t (c .before) in

@@ -1,18 +1,14 @@
 -- The measure is the edges that are left. The first edge whose tree differs answers. Assumes nothing.
-use mathlib.Core.Path.{_≡_, refl, sym, ap, _∙_, subst}
-use mathlib.Core.Bool.{Bool, true, false}
-use mathlib.Core.List.{List, _∷_, _++_}
-use Prim.Native.Nat.{_+_, _*_, _-_, _≤_}
+use mathlib.Core.Path.{_≡_}
+use mathlib.Core.List.{List}
+use Prim.Native.Nat.{_+_, _*_, _-_}
 use native.Mathlib.Omega.{arith}
-use borrow.Author.Needs.{needs}
-use lib.IntN.{ℤ}
-use lib.ListN.{length, drop, length-drop}
+use lib.ListN.{length, length-drop}
 use mir.Facts.{toZ-ofZ}
 use Rattle.model.specs.Jobs.{edgeAt}
-use Rattle.model.specs.Trees.{Tree, tree, isLong}
-use Rattle.model.specs.Store.{width, size, sizes, flatten}
-
-use Rattle.subtrees.specs.Preorder.{size-pos, tail, Begins, BeginsAll, all-first}
+use Rattle.model.specs.Trees.{Tree, tree}
+use Rattle.model.specs.Store.{width, size}
+use Rattle.subtrees.specs.Preorder.{size-pos, tail, Begins, all-first}
 use Rattle.checking.specs.Answers.{Told, refused, granted}
 use Rattle.subtrees.specs.Sizes.{few-nodes}
 use Rattle.forests.specs.Walk.{treesFrom, end-is}
@@ -68,14 +64,14 @@ holds-from-returns : (t : ℕ) → holds-from-lts.Need-returns (callees t) (hold
 holds-from-returns t c = let s = c .before in rw (end-is (s .args .grain) (s .args .places .now) (s .args .count) (s .args .e) (c .if1 .taken))
 
 holds-from-check-edge-requires : (t : ℕ) → holds-from-lts.Need-check-edge-requires (callees t) (holds-from-at t) holds-from.Post
-holds-from-check-edge-requires t c κs = 
+holds-from-check-edge-requires t c κs =
     let s = c .before in
     let p = s .pre .1 in
     let d = split-at t c in
     rw (toZ-ofZ (s .fits .grain)) (p .0, omega (arith, p .1, p .2, c .if1 .left), p .3, d .first-ok, omega (arith, d .room))
 
 holds-from-returns-2 : (t : ℕ) → holds-from-lts.Need-returns-2 (callees t) (holds-from-at t) holds-from.Post
-holds-from-returns-2 t c = 
+holds-from-returns-2 t c =
     let s = c .before .before .before in
     rw (split-at t (c .before .before) .is)
     (λ b. refused (c .before .check-edge .result) (size (first-of t s)) (Begins (first-of t s) (s .args .s .now)) (told-at t (c .before)) (size-pos (first-of t s)) (c .if2 .taken) (all-first (first-of t s) (others-of t s) (s .args .s .now) b))
@@ -99,19 +95,19 @@ holds-from-add-holds-from : (t : ℕ) → holds-from-lts.Need-add-holds-from (ca
 holds-from-add-holds-from t c = let p = c .before .before .before .before .pre .1 in omega (arith, p .1, p .2)
 
 holds-from-holds-from-requires : (t : ℕ) → holds-from-lts.Need-holds-from-requires (callees t) (holds-from-at t) holds-from.Post
-holds-from-holds-from-requires t c κs = 
+holds-from-holds-from-requires t c κs =
     let g = c .before in
     let q = g .before .before in
     let s = q .before in
     let p = s .pre .1 in
     let d = split-at t q in
-    rw (toZ-ofZ (s .fits .grain))
-    ( omega (arith, s .pre .0, p .1, q .if1 .left)
-    , (p .0, omega (arith, p .1, q .if1 .left), p .2, p .3, d .others-ok, rw (tail (width * g .before .check-edge .result) (s .args .s .now)) (simp length-drop (omega (arith, holds-is t g .0, d .room))))
+    rw (toZ-ofZ (s .fits .grain)) (
+      omega (arith, s .pre .0, p .1, q .if1 .left),
+      (p .0, omega (arith, p .1, q .if1 .left), p .2, p .3, d .others-ok, rw (tail (width * g .before .check-edge .result) (s .args .s .now)) (simp length-drop (omega (arith, holds-is t g .0, d .room)))),
     )
 
 holds-from-returns-3 : (t : ℕ) → holds-from-lts.Need-returns-3 (callees t) (holds-from-at t) holds-from.Post
-holds-from-returns-3 t c = 
+holds-from-returns-3 t c =
     let g = c .before .before in
     let q = g .before .before in
     let s = q .before in

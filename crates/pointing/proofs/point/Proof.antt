@@ -1,22 +1,17 @@
 -- Each return is one of the answers of `Answers`. Assumes nothing.
-use mathlib.Core.Path.{_≡_, refl, sym, ap, _∙_, subst}
-use mathlib.Core.Bool.{true, false, cond}
-use Prim.Native.Nat.{_+_, _*_, _≤_, _<_}
+use mathlib.Core.Path.{_≡_, refl, sym, _∙_}
+use mathlib.Core.Bool.{true, cond}
 use native.Mathlib.Omega.{arith}
 use borrow.Author.Needs.{needs}
 use borrow.Author.Tests.{not-true, not-false}
-use lib.IntN.{ℤ, pos, natAbs}
-use lib.ListN.{length}
 use mir.Syntax.{w32}
 use mir.Val.{toZ, ofZ}
 use mir.Facts.{toZ-ofZ}
 use Rattle.integers.specs.Signed.{fits32, read64}
-use Rattle.model.specs.declared.Nearest.{Nearest}
 use Rattle.model.specs.Jobs.{outline}
 use Rattle.model.specs.Trees.{anyLong}
-use Rattle.model.specs.Store.{width, forest, nodesOf, storeOf, begins}
-use Rattle.model.specs.Entries.{IsNearest}
-use Rattle.pointing.specs.Checks.{asking, refusedWith}
+use Rattle.model.specs.Store.{forest, nodesOf, storeOf, begins}
+use Rattle.pointing.specs.Checks.{asking}
 use Rattle.pointing.proofs.Answers.{refuse, accept, asked, Passed, passed, long-5, none-long, nodes-are, few-nodes, store-6, stranger-8, accepted-0, trees-many, trees-there}
 use Rattle.pointing.proofs.point.Statement.{statement}
 use Rattle.pointing.proofs.point.Tie as tie
