@@ -17,7 +17,7 @@ use Rattle.model.specs.Explore.{Cell, farthest², closest²}
 use Rattle.model.specs.Distance.{leaves, leavesAll, leavesAt, lesser, least, Some}
 use Rattle.ranges.specs.Sizes.{AllSized, EachSized}
 use Rattle.subtrees.specs.Preorder.{size-pos, length-flatten, countPlace, Begins, BeginsAll, begins-count, all-first, all-others}
-use Rattle.distance.specs.declared.Bounds.{Bounds}
+use Rattle.boxes.specs.declared.Bounds.{Bounds}
 use Rattle.distance.specs.declared.Found.{Found}
 use Rattle.distance.specs.Least.{least-append, attained, leaf-there, leaves-there, some-below}
 use Rattle.distance.specs.Answers.{BoundsOf, FoundIn, TreesOf}

@@ -11,7 +11,7 @@ use Rattle.model.specs.Explore.{Cell, farthest², closest²}
 use Rattle.model.specs.Distance.{leaves, lesser, least}
 use Rattle.subtrees.specs.Preorder.{size-pos, countPlace}
 use Rattle.subtrees.specs.Halves.{stripIn, Halves, halves, parts}
-use Rattle.distance.specs.declared.Bounds.{Bounds}
+use Rattle.boxes.specs.declared.Bounds.{Bounds}
 use Rattle.distance.specs.Least.{least-append, leaf-there}
 use Rattle.distance.specs.Answers.{BoundsOf}
 

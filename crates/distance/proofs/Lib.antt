@@ -1,4 +1,3 @@
 -- Laws that belong to no one function.
-pub mod Clamps
 pub mod Finds
 pub mod Edges

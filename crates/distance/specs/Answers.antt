@@ -1,29 +1,17 @@
 -- What each step of the lookup of a point answers, in the model's terms. Assumes nothing.
 use mathlib.Core.Path.{_≡_}
 use mathlib.Core.List.{List}
-use Prim.Native.Nat.{ℕ, _≤_}
-use lib.IntN.{ℤ, pos, natAbs}
+use Prim.Native.Nat.{ℕ}
+use lib.IntN.{ℤ}
 use lib.ListN.{length}
-use Rattle.model.specs.Strips.{Side, Strip}
+use Rattle.model.specs.Strips.{Strip}
 use Rattle.model.specs.Trees.{Tree}
-use Rattle.model.specs.Explore.{Cell, farthest, closest, farthest², closest²}
+use Rattle.model.specs.Explore.{Cell, farthest², closest²}
 use Rattle.model.specs.Distance.{leavesAll, leavesAt, least, Some}
 use Rattle.ranges.specs.Sizes.{EachSized}
 use Rattle.subtrees.specs.Preorder.{BeginsAll}
-use Rattle.distance.specs.declared.Range.{Range}
-use Rattle.distance.specs.declared.Bounds.{Bounds}
+use Rattle.boxes.specs.declared.Bounds.{Bounds}
 use Rattle.distance.specs.declared.Found.{Found}
-
--- a point in fine units
-abbrev pub pointAt : ℤ → ℤ → Cell
-pointAt x y = record { cx = x; cy = y; s = pos 0 }
-
--- in one coordinate, of the point c and a strip's upright box
-pub record RangeOf (c : ℤ) (S : Side) (r : Range) : Type 0 where
-  pub near-is : r .near ≡ closest c (pos 0) S
-  pub far-is : r .far ≡ farthest c (pos 0) S
-  pub near-size : natAbs (r .near) ≤ 1223959552
-  pub far-size : natAbs (r .far) ≤ 1223959552
 
 -- over some leaves
 pub record BoundsOf (c : Cell) (ss : List Strip) (r : Bounds) : Type 0 where

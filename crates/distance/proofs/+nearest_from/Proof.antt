@@ -14,7 +14,8 @@ use Rattle.model.specs.Store.{width, size}
 use Rattle.model.specs.Explore.{Cell}
 use Rattle.model.specs.Distance.{leaves}
 use Rattle.subtrees.specs.Preorder.{tail, Begins, BeginsAll, all-first, all-others, all-yes}
-use Rattle.distance.specs.Answers.{pointAt, BoundsOf, FoundIn}
+use Rattle.boxes.specs.Ranges.{pointAt}
+use Rattle.distance.specs.Answers.{BoundsOf, FoundIn}
 use Rattle.distance.proofs.Edges.{First, first-of, room, front, counted, size-read, first-part, last-edge, more-edges, edge-below}
 use Prim.Native.Nat.{ℕ, _<_}
 use borrow.Fn.Kinds.{In}

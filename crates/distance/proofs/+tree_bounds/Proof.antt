@@ -14,7 +14,8 @@ use Rattle.model.specs.Explore.{Cell}
 use Rattle.model.specs.Distance.{leaves}
 use Rattle.subtrees.specs.Preorder.{countPlace}
 use Rattle.subtrees.specs.Halves.{front, first-sized, counted, split, left-counted, Read, read, below}
-use Rattle.distance.specs.Answers.{pointAt, BoundsOf}
+use Rattle.boxes.specs.Ranges.{pointAt}
+use Rattle.distance.specs.Answers.{BoundsOf}
 use Rattle.distance.proofs.Finds.{at-leaf, at-node, both}
 use Prim.Native.Nat.{ℕ, _<_}
 use borrow.Fn.Kinds.{In}
@@ -24,7 +25,7 @@ use Rattle.distance.proofs.tree_bounds.Kinds as tree-bounds-kinds
 use Rattle.distance.proofs.+tree_bounds.Lts-tree_bounds as tree-bounds-lts
 use Rattle.arithmetic.proofs.count_at.Reads as count-at-reads
 use Rattle.distance.proofs.join.Reads as join-reads
-use Rattle.distance.proofs.leaf_bounds.Reads as leaf-bounds-reads
+use Rattle.boxes.proofs.leaf_bounds.Reads as leaf-bounds-reads
 use Rattle.distance.proofs.+tree_bounds.{statement}
 use Rattle.distance.proofs.+tree_bounds.Tie.{close}
 

@@ -1,9 +1,9 @@
 -- By the test. Assumes nothing.
 use mathlib.Core.Path.{_∙_}
 use mir.Facts.{toZ-ofZ}
-use Rattle.distance.proofs.Clamps.{clamp-yes, clamp-no}
-use Rattle.distance.proofs.at_least_0.Statement.{statement}
-use Rattle.distance.proofs.at_least_0.Tie as tie
+use Rattle.boxes.proofs.Clamps.{clamp-yes, clamp-no}
+use Rattle.boxes.proofs.at_least_0.Statement.{statement}
+use Rattle.boxes.proofs.at_least_0.Tie as tie
 
 returns : tie.Need-returns
 returns c = let s = c .before in clamp-yes (s .args .z) (rw (toZ-ofZ (s .fits .z)) at (c .if1 .taken))

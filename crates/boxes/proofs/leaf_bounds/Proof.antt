@@ -5,9 +5,9 @@ use mir.Facts.{toZ-ofZ}
 use Rattle.integers.specs.Signed.{read64, held, back}
 use Rattle.model.specs.Explore.{squares}
 use Rattle.subtrees.specs.Halves.{sideIn}
-use Rattle.distance.specs.Answers.{RangeOf}
-use Rattle.distance.proofs.leaf_bounds.Statement.{statement}
-use Rattle.distance.proofs.leaf_bounds.Tie as tie
+use Rattle.boxes.specs.Ranges.{RangeOf}
+use Rattle.boxes.proofs.leaf_bounds.Statement.{statement}
+use Rattle.boxes.proofs.leaf_bounds.Tie as tie
 
 module _ (c : tie.After-range-of2) where
   abbrev s : tie.Start

@@ -12,9 +12,9 @@ use Rattle.model.specs.Strips.{Side}
 use Rattle.model.specs.Explore.{atLeast0}
 use Rattle.ranges.specs.Bounds.{abs-size}
 use Rattle.subtrees.specs.Halves.{sideIn}
-use Rattle.distance.proofs.Clamps.{clamp-size}
-use Rattle.distance.proofs.range_of.Statement.{statement}
-use Rattle.distance.proofs.range_of.Tie as tie
+use Rattle.boxes.proofs.Clamps.{clamp-size}
+use Rattle.boxes.proofs.range_of.Statement.{statement}
+use Rattle.boxes.proofs.range_of.Tie as tie
 
 abbrev box-side : tie.Start → Side
 box-side s = sideIn (s .args .part .now) (s .args .i)

@@ -1,7 +1,7 @@
 -- Nothing wraps. Assumes nothing.
 use Rattle.integers.specs.Signed.{Made, arg, plus, times, back}
-use Rattle.distance.proofs.sum_of_squares.Statement.{statement}
-use Rattle.distance.proofs.sum_of_squares.Tie as tie
+use Rattle.boxes.proofs.sum_of_squares.Statement.{statement}
+use Rattle.boxes.proofs.sum_of_squares.Tie as tie
 
 module _ (c : tie.Start) where
   x : Made (c .args .x) (c .args .x) 1223959552
