@@ -1,6 +1,6 @@
 // Writes an edge's strip tree in preorder into a lent part of the store.
+use powers::Power;
 use strips::Extent;
-use strips::Power;
 ghost use mathlib.Core.Path.{_≡_};
 ghost use mathlib.Core.Bool.{false};
 ghost use mathlib.Core.List.{_++_};
@@ -12,7 +12,8 @@ ghost use Rattle.ranges.specs.Sizes.{SideSized};
 ghost use Rattle.ranges.specs.PowerForm.{FormSized};
 ghost use Rattle.subtrees.specs.Subtrees.{subtree};
 ghost use Rattle.subtrees.specs.Halving.{Halvable};
-ghost use Rattle.strips.specs.Structs.{form, side, stripOf};
+ghost use Rattle.powers.specs.Structs.{form};
+ghost use Rattle.strips.specs.Structs.{side, stripOf};
 
 // writes a node's numbers at the front of s
 pub fn put(s: &mut [i32], x: Extent, y: Extent, nodes: usize)

@@ -1,6 +1,6 @@
 // Does a store begin with an edge's strip tree: compared number by number as the tree is walked, up to the first difference.
+use powers::Power;
 use strips::Extent;
-use strips::Power;
 ghost use mathlib.Core.Path.{_≡_};
 ghost use mathlib.Core.Bool.{false};
 ghost use Prim.Native.Nat.{_*_, _≤_, _<_};
@@ -13,7 +13,8 @@ ghost use Rattle.ranges.specs.PowerForm.{FormSized};
 ghost use Rattle.subtrees.specs.Preorder.{countPlace, HasSide, HasStrip, Begins};
 ghost use Rattle.subtrees.specs.Subtrees.{subtree};
 ghost use Rattle.subtrees.specs.Halving.{Halvable};
-ghost use Rattle.strips.specs.Structs.{form, side, stripOf};
+ghost use Rattle.powers.specs.Structs.{form};
+ghost use Rattle.strips.specs.Structs.{side, stripOf};
 ghost use Rattle.checking.specs.Answers.{Unless, Told};
 
 // is number i of s other than v

@@ -15,7 +15,8 @@ use Rattle.ranges.specs.PowerForm.{by-sized}
 use Rattle.subtrees.specs.Preorder.{size-pos}
 use Rattle.subtrees.specs.Subtrees.{stripBy, shortBy, subtree}
 use Rattle.subtrees.specs.Halving.{at-short, few, n-in, left-half, right-half, Forked, forked}
-use Rattle.strips.specs.Structs.{form, side, stripOf}
+use Rattle.powers.specs.Structs.{form}
+use Rattle.strips.specs.Structs.{side, stripOf}
 use Rattle.building.proofs.Halves.{both, put-eq}
 use Prim.Native.Nat.{ℕ, _<_}
 use borrow.Fn.Kinds.{In}

@@ -13,7 +13,8 @@ use Rattle.ranges.specs.PowerForm.{by-sized}
 use Rattle.subtrees.specs.Preorder.{size-pos, tail, countPlace, HasStrip, Begins}
 use Rattle.subtrees.specs.Subtrees.{stripBy, shortBy, subtree}
 use Rattle.subtrees.specs.Halving.{at-short, few, n-in, left-half, right-half, Forked, forked}
-use Rattle.strips.specs.Structs.{form, stripOf}
+use Rattle.powers.specs.Structs.{form}
+use Rattle.strips.specs.Structs.{stripOf}
 use Rattle.checking.specs.Answers.{Told, unless-true, unless-false, refused, granted}
 use Rattle.checking.proofs.Found.{no-strip, no-count, yes-leaf, no-left, no-right, yes-node}
 use Prim.Native.Nat.{ℕ, _<_}

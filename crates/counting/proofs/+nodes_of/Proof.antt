@@ -7,7 +7,7 @@ use Rattle.model.specs.Trees.{Tree, node}
 use Rattle.subtrees.specs.Subtrees.{stripBy, subtree}
 use Rattle.subtrees.specs.Halving.{at-short, at-long, at-node, few, n-in, left-half, right-half}
 use Rattle.subtrees.specs.Counts.{count, kept, count-left, count-right, count-both}
-use Rattle.strips.specs.Structs.{form}
+use Rattle.powers.specs.Structs.{form}
 use Prim.Native.Nat.{ℕ, _<_}
 use borrow.Fn.Kinds.{In}
 use borrow.Fn.PlainCycle.{Measures, is, falls, and}

@@ -3,7 +3,7 @@ use mathlib.Core.Path.{ap, _∙_}
 use Rattle.integers.specs.Signed.{back}
 use Rattle.subtrees.specs.Halving.{whole-edge}
 use Rattle.subtrees.specs.Counts.{count}
-use Rattle.strips.specs.Structs.{form}
+use Rattle.powers.specs.Structs.{form}
 use Rattle.edges.proofs.Whole.{whole-is, x-form, y-form, limit}
 use borrow.Author.Needs.{needs}
 use Rattle.edges.proofs.count_edge.Statement.{statement}

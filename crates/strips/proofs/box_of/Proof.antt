@@ -11,7 +11,7 @@ use lib.IntN.{ℤ, pos, natAbs, _*ℤ_}
 use Rattle.integers.specs.Rounding.{nearest}
 use Rattle.integers.specs.Signed.{Made, held, lit, widen, plus, times, back, called, sized}
 use Rattle.ranges.specs.PowerForm as pf
-use Rattle.strips.specs.Structs.{form}
+use Rattle.powers.specs.Structs.{form}
 use Rattle.strips.proofs.Records.{got}
 use borrow.Author.Needs.{needs}
 use Rattle.strips.proofs.box_of.Statement.{statement}

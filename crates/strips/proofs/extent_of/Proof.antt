@@ -6,7 +6,7 @@ use lib.IntN.{pos}
 use Rattle.integers.specs.Signed.{Made, held, times, back}
 use Rattle.integers.specs.Signed.{read64}
 use Rattle.ranges.specs.PowerForm.{sideBy, cube-above, second-in, third-in}
-use Rattle.strips.specs.Structs.{form}
+use Rattle.powers.specs.Structs.{form}
 use Rattle.strips.proofs.Records.{side-eq}
 use borrow.Author.Needs.{needs}
 use Rattle.strips.proofs.extent_of.Statement.{statement}

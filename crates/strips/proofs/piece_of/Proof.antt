@@ -3,7 +3,8 @@ use mathlib.Core.Path.{sym, _∙_, subst}
 use mir.Facts.{toZ-ofZ}
 use Rattle.ranges.specs.Sizes.{SideSized}
 use Rattle.ranges.specs.PowerForm.{by-sized}
-use Rattle.strips.specs.Structs.{form, short-eq}
+use Rattle.powers.specs.Structs.{form}
+use Rattle.strips.specs.Structs.{short-eq}
 use borrow.Author.Needs.{needs}
 use Rattle.strips.proofs.piece_of.Statement.{statement}
 use Rattle.strips.proofs.piece_of.Tie as tie

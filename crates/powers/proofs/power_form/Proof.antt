@@ -1,8 +1,8 @@
 -- Nothing wraps; each coefficient is the model's. Assumes nothing.
-use Rattle.strips.proofs.Records.{form-eq}
+use Rattle.powers.proofs.Records.{form-eq}
 use Rattle.integers.specs.Signed.{Made, arg, lit, plus, minus, times, back}
-use Rattle.strips.proofs.power_form.Statement.{statement}
-use Rattle.strips.proofs.power_form.Tie as tie
+use Rattle.powers.proofs.power_form.Statement.{statement}
+use Rattle.powers.proofs.power_form.Tie as tie
 
 module _ (s : tie.Start) where
   b0 : Made (s .args .b0) (s .args .b0) 1000000

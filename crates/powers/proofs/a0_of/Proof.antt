@@ -1,7 +1,7 @@
 -- Nothing wraps, by the sizes of the coefficients and of N. Assumes nothing.
 use Rattle.integers.specs.Signed.{Made, arg, held, plus, times, back}
-use Rattle.strips.proofs.a0_of.Statement.{statement}
-use Rattle.strips.proofs.a0_of.Tie as tie
+use Rattle.powers.proofs.a0_of.Statement.{statement}
+use Rattle.powers.proofs.a0_of.Tie as tie
 
 module _ (s : tie.Start) where
   c0 : Made (s .args .c .c0) (s .args .c .c0) 1000000
