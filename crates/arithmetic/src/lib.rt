@@ -10,6 +10,14 @@ ghost use Rattle.integers.specs.Absolute.{absℤ};
 ghost use Rattle.integers.specs.Rounding.{nearest};
 ghost use Rattle.model.specs.Store.{width};
 
+// ---- a node in the store: how many numbers it has, where its node count stands, and where its left half's
+
+pub const WIDTH: usize = 7;
+
+pub const COUNT: usize = 6;
+
+pub const LEFT_COUNT: usize = WIDTH + COUNT;
+
 // ---- numbers
 
 pub fn abs(x: i64) -> i64

@@ -1,4 +1,5 @@
 // Writes an edge's strip tree in preorder into a lent part of the store.
+use arithmetic::WIDTH;
 use powers::Power;
 use strips::Extent;
 ghost use mathlib.Core.Path.{_≡_};
@@ -52,8 +53,8 @@ pub fn build(
         put(s, x, y, 1);
         return 1;
     }
-    let l = build(&mut s[7..], cx, cy, left - 1, 2 * n, 2 * m - 1, limit);
-    let mid = 7 + 7 * l;
+    let l = build(&mut s[WIDTH..], cx, cy, left - 1, 2 * n, 2 * m - 1, limit);
+    let mid = WIDTH + WIDTH * l;
     let r = build(&mut s[mid..], cx, cy, left - 1, 2 * n, 2 * m + 1, limit);
     let nodes = 1 + l + r;
     put(s, x, y, nodes);

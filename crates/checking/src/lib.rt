@@ -1,4 +1,6 @@
 // Does a store begin with an edge's strip tree: compared number by number as the tree is walked, up to the first difference.
+use arithmetic::COUNT;
+use arithmetic::WIDTH;
 use powers::Power;
 use strips::Extent;
 ghost use mathlib.Core.Path.{_≡_};
@@ -31,7 +33,7 @@ pub fn differs_count(s: &[i32], nodes: usize) -> bool
     requires { ⌜ (width ≤ length (now s)) × (nodes < 4096) ⌝ }
     ensures unless { λ r. ⌜ Unless r (getD (now (s .entry)) countPlace (pos 0) ≡ pos nodes) ⌝ }
 {
-    differs(s, 6, nodes as i64)
+    differs(s, COUNT, nodes as i64)
 }
 
 // is the first node's strip another one in coordinate i
@@ -84,11 +86,11 @@ pub fn begins_with(
         }
         return 1;
     }
-    let l = begins_with(&s[7..], cx, cy, left - 1, 2 * n, 2 * m - 1, limit);
+    let l = begins_with(&s[WIDTH..], cx, cy, left - 1, 2 * n, 2 * m - 1, limit);
     if l == 0 {
         return 0;
     }
-    let mid = 7 + 7 * l;
+    let mid = WIDTH + WIDTH * l;
     let r = begins_with(&s[mid..], cx, cy, left - 1, 2 * n, 2 * m + 1, limit);
     if r == 0 {
         return 0;

@@ -8,32 +8,32 @@ ghost use mathlib.Core.Bool.{_&&_};
 ghost use Rattle.judging.specs.Places.{place};
 
 pub fn between(lo: i32, hi: i32, z: i32) -> bool
-    ensures { λ r. ⌜ r ≡ law.between lo hi z ⌝ }
+    ensures same { λ r. ⌜ r ≡ law.between lo hi z ⌝ }
 {
     if lo <= z { z <= hi } else { false }
 }
 
 pub fn coordinate(z: i32) -> bool
-    ensures { λ r. ⌜ r ≡ law.coordinate z ⌝ }
+    ensures same { λ r. ⌜ r ≡ law.coordinate z ⌝ }
 {
     between(-1000000, 1000000, z)
 }
 
 fn nought(z: i32) -> bool
-    ensures { λ r. ⌜ r ≡ law.isZero z ⌝ }
+    ensures same { λ r. ⌜ r ≡ law.isZero z ⌝ }
 {
     z == 0
 }
 
 fn place(i: usize, n: usize, v: i32) -> bool
-    ensures { λ r. ⌜ r ≡ place i n v ⌝ }
+    ensures same { λ r. ⌜ r ≡ place i n v ⌝ }
 {
     if i < n { coordinate(v) } else { nought(v) }
 }
 
 // n coordinates, and zeros after them.
 pub fn places(n: usize, edges: [i32; 512]) -> bool
-    ensures { λ r. ⌜ r ≡ law.placed n edges ⌝ }
+    ensures same { λ r. ⌜ r ≡ law.placed n edges ⌝ }
 {
     let mut i: usize = 0;
     while i < 512 {
@@ -47,20 +47,20 @@ pub fn places(n: usize, edges: [i32; 512]) -> bool
 }
 
 fn both(a: bool, b: bool) -> bool
-    ensures { λ r. ⌜ r ≡ (a && b) ⌝ }
+    ensures same { λ r. ⌜ r ≡ (a && b) ⌝ }
 {
     if a { b } else { false }
 }
 
 fn all(a: bool, b: bool, c: bool, d: bool, e: bool, f: bool, g: bool) -> bool
-    ensures { λ r. ⌜ r ≡ (a && (b && (c && (d && (e && (f && g)))))) ⌝ }
+    ensures same { λ r. ⌜ r ≡ (a && (b && (c && (d && (e && (f && g)))))) ⌝ }
 {
     both(a, both(b, both(c, both(d, both(e, both(f, g))))))
 }
 
 fn ranged(job: Job) -> bool
     requires { ⌜ job .count ≤ 64 ⌝ }
-    ensures { λ r. ⌜ r ≡ law.ranged job ⌝ }
+    ensures same { λ r. ⌜ r ≡ law.ranged job ⌝ }
 {
     let edges = job.places;
     let x = coordinate(job.x);
@@ -75,7 +75,7 @@ fn ranged(job: Job) -> bool
 
 fn celled(job: Job) -> bool
     requires { ⌜ law.ranged job ≡ true ⌝ }
-    ensures { λ r. ⌜ r ≡ law.celled job ⌝ }
+    ensures same { λ r. ⌜ r ≡ law.celled job ⌝ }
 {
     if job.m <= job.n {
         job.n - job.m <= 8
@@ -85,7 +85,7 @@ fn celled(job: Job) -> bool
 }
 
 pub fn judge(job: Job) -> u8
-    ensures { λ r. ⌜ r ≡ law.judge job ⌝ }
+    ensures same { λ r. ⌜ r ≡ law.judge job ⌝ }
 {
     if job.count < 1 {
         return 2;

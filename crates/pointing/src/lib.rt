@@ -1,4 +1,5 @@
 // The entry `point`: the bounds of a point's distance from a job's outline, or the refusal. Document 01, "Distance of a point" and "Refused jobs".
+use arithmetic::WIDTH;
 use model::Job;
 use model::Nearest;
 ghost use mathlib.Core.Path.{_≡_};
@@ -50,7 +51,7 @@ pub fn point(job: Job, x: i32, y: i32, store: &[i32]) -> Nearest
     if nodes == 0 {
         return refused(5);
     }
-    if store.len() < 7 * nodes {
+    if store.len() < WIDTH * nodes {
         return refused(6);
     }
     if !forests::holds_all(store, &places, count, grain) {
