@@ -21,14 +21,14 @@ pub struct Bounds {
     pub hi: i64,
 }
 
-pub fn at_least_0(z: i64) -> i64
+fn at_least_0(z: i64) -> i64
     ensures clamped { λ r. ⌜ r ≡ atLeast0 z ⌝ }
 {
     if z < 0 { 0 } else { z }
 }
 
 // in coordinate i, of the point c and the first node of part
-pub fn range_of(part: &[i32], i: usize, c: i64) -> Range
+fn range_of(part: &[i32], i: usize, c: i64) -> Range
     requires { ⌜ (i < 2) × (width ≤ length (now part)) × SideSized (sideIn (now part) i) × (natAbs c ≤ 16000000) ⌝ }
     ensures range { λ r. ⌜ RangeOf c (sideIn (now (part .entry)) i) r ⌝ }
 {
@@ -44,7 +44,7 @@ pub fn range_of(part: &[i32], i: usize, c: i64) -> Range
     }
 }
 
-pub fn sum_of_squares(x: i64, y: i64) -> i64
+fn sum_of_squares(x: i64, y: i64) -> i64
     requires { ⌜ (natAbs x ≤ 1223959552) × (natAbs y ≤ 1223959552) ⌝ }
     ensures sum { λ r. ⌜ r ≡ squares x y ⌝ }
 {

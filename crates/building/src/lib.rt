@@ -17,7 +17,7 @@ ghost use Rattle.powers.specs.Structs.{form};
 ghost use Rattle.strips.specs.Structs.{side, stripOf};
 
 // writes a node's numbers at the front of s
-pub fn put(s: &mut [i32], x: Extent, y: Extent, nodes: usize)
+fn put(s: &mut [i32], x: Extent, y: Extent, nodes: usize)
     requires { ⌜ (width ≤ length (now s)) × SideSized (side x) × SideSized (side y) × (nodes < 4096) ⌝ }
     ensures written { λ _. ⌜ now (s .exit) ≡ numbers (stripOf x y) nodes (drop width (now (s .entry))) ⌝ }
 {

@@ -20,7 +20,7 @@ ghost use Rattle.strips.specs.Structs.{side, stripOf};
 ghost use Rattle.checking.specs.Answers.{Unless, Told};
 
 // is number i of s other than v
-pub fn differs(s: &[i32], i: usize, v: i64) -> bool
+fn differs(s: &[i32], i: usize, v: i64) -> bool
     requires { ⌜ i < length (now s) ⌝ }
     ensures unless { λ r. ⌜ Unless r (getD (now (s .entry)) i (pos 0) ≡ v) ⌝ }
 {
@@ -29,7 +29,7 @@ pub fn differs(s: &[i32], i: usize, v: i64) -> bool
 }
 
 // is the first node's count other than this
-pub fn differs_count(s: &[i32], nodes: usize) -> bool
+fn differs_count(s: &[i32], nodes: usize) -> bool
     requires { ⌜ (width ≤ length (now s)) × (nodes < 4096) ⌝ }
     ensures unless { λ r. ⌜ Unless r (getD (now (s .entry)) countPlace (pos 0) ≡ pos nodes) ⌝ }
 {
@@ -37,7 +37,7 @@ pub fn differs_count(s: &[i32], nodes: usize) -> bool
 }
 
 // is the first node's strip another one in coordinate i
-pub fn differs_side(s: &[i32], i: usize, v: Extent) -> bool
+fn differs_side(s: &[i32], i: usize, v: Extent) -> bool
     requires { ⌜ (i < 2) × (width ≤ length (now s)) × SideSized (side v) ⌝ }
     ensures unless { λ r. ⌜ Unless r (HasSide (now (s .entry)) i (side v)) ⌝ }
 {
@@ -50,7 +50,7 @@ pub fn differs_side(s: &[i32], i: usize, v: Extent) -> bool
     differs(s, i + 4, v.half)
 }
 
-pub fn differs_strip(s: &[i32], x: Extent, y: Extent) -> bool
+fn differs_strip(s: &[i32], x: Extent, y: Extent) -> bool
     requires { ⌜ (width ≤ length (now s)) × SideSized (side x) × SideSized (side y) ⌝ }
     ensures unless { λ r. ⌜ Unless r (HasStrip (now (s .entry)) (stripOf x y)) ⌝ }
 {

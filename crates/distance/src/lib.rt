@@ -27,13 +27,13 @@ pub struct Found {
 
 // ---- one tree: a leaf's bounds, or the lesser of its halves'
 
-pub fn lesser_of(a: i64, b: i64) -> i64
+fn lesser_of(a: i64, b: i64) -> i64
     ensures least { λ r. ⌜ r ≡ lesser a b ⌝ }
 {
     if b < a { b } else { a }
 }
 
-pub fn join(a: Bounds, b: Bounds) -> Bounds
+fn join(a: Bounds, b: Bounds) -> Bounds
     ensures low { λ r. ⌜ r .lo ≡ lesser (a .lo) (b .lo) ⌝ }
     ensures high { λ r. ⌜ r .hi ≡ lesser (a .hi) (b .hi) ⌝ }
 {
@@ -43,7 +43,7 @@ pub fn join(a: Bounds, b: Bounds) -> Bounds
 }
 
 // over the leaves of the tree that part holds
-pub fn tree_bounds(part: &[i32], x: i64, y: i64) -> Bounds
+fn tree_bounds(part: &[i32], x: i64, y: i64) -> Bounds
     requires { ⌜ TreeOf (now part) × (natAbs x ≤ 16000000) × (natAbs y ≤ 16000000) ⌝ }
     ensures bounds { λ r. ⌜ ((t : Tree) → now (part .entry) ≡ flatten t → BoundsOf (pointAt x y) (leaves t) r) ⌝ }
 {
@@ -61,7 +61,7 @@ pub fn tree_bounds(part: &[i32], x: i64, y: i64) -> Bounds
 // ---- edges: each tree is a part by itself, and ends where its count says
 
 // the bounds of one more edge, put before those of the later ones
-pub fn join_edge(a: Bounds, b: Found) -> Found
+fn join_edge(a: Bounds, b: Found) -> Found
     requires { ⌜ b .edge < 64 ⌝ }
     ensures low { λ r. ⌜ r .lo ≡ lesser (a .lo) (b .lo) ⌝ }
     ensures high { λ r. ⌜ r .hi ≡ lesser (a .hi) (b .hi) ⌝ }
@@ -86,7 +86,7 @@ pub fn join_edge(a: Bounds, b: Found) -> Found
 }
 
 // over the trees of `count` edges, with which s begins; x and y are in fine units
-pub fn nearest_from(s: &[i32], count: usize, x: i64, y: i64) -> Found
+fn nearest_from(s: &[i32], count: usize, x: i64, y: i64) -> Found
     requires { ⌜ TreesOf (now s) count × (0 < count) × (count ≤ 64) × (natAbs x ≤ 16000000) × (natAbs y ≤ 16000000) ⌝ }
     ensures found { λ r. ⌜ ((ts : List Tree) → length ts ≡ count → BeginsAll ts (now (s .entry)) → FoundIn (pointAt x y) ts r) ⌝ }
 {

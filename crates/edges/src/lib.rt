@@ -16,7 +16,7 @@ ghost use Rattle.subtrees.specs.Counts.{count};
 ghost use Rattle.powers.specs.Structs.{form};
 ghost use Rattle.checking.specs.Answers.{Told};
 
-pub fn control(places: &[i32; 512], i: usize) -> i64
+fn control(places: &[i32; 512], i: usize) -> i64
     requires { ⌜ i < 512 ⌝ }
     ensures element { λ r. ⌜ r ≡ getD (now (places .entry)) i (pos 0) ⌝ }
 {
@@ -24,7 +24,7 @@ pub fn control(places: &[i32; 512], i: usize) -> i64
 }
 
 // the power form of edge e in coordinate i
-pub fn power_of(places: &[i32; 512], e: usize, i: usize) -> Power
+fn power_of(places: &[i32; 512], e: usize, i: usize) -> Power
     requires { ⌜ Limits (now places) × (e < 64) × (i < 2) ⌝ }
     ensures power { λ r. ⌜ form r ≡ formOf (cubicAt (now (places .entry)) (8 * e + i)) ⌝ }
 {

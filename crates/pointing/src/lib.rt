@@ -7,7 +7,7 @@ ghost use Rattle.model.specs.Entries.{IsNearest};
 ghost use Rattle.pointing.specs.Checks.{asking, refusedWith};
 
 // the checks of the job's numbers and of the point's: refusals 2, 3 and 4
-pub fn ask(job: Job, x: i32, y: i32) -> u8
+fn ask(job: Job, x: i32, y: i32) -> u8
     ensures refusal { λ r. ⌜ r ≡ asking job x y ⌝ }
 {
     let r = judging::judge(job);

@@ -27,7 +27,7 @@ pub struct Piece {
 
 // ---- the four quotients by N³, a power of two, and the box
 
-pub fn centre_of(c: Power, n: i64, m: i64, cube: i64) -> i64
+fn centre_of(c: Power, n: i64, m: i64, cube: i64) -> i64
     requires { ⌜ FormSized (form c) × (natAbs n ≤ 2048) × (natAbs m ≤ 2048) × (natAbs cube ≤ 8589934592) × (0 < natAbs cube) × T (nonNeg cube) ⌝ }
     ensures centre { λ r. ⌜ r ≡ centreBy (form c) n m (natAbs cube) ⌝ }
 {
@@ -36,7 +36,7 @@ pub fn centre_of(c: Power, n: i64, m: i64, cube: i64) -> i64
     arithmetic::rounded(16 * a0 + 8 * a2, cube)
 }
 
-pub fn axis_of(c: Power, n: i64, m: i64, cube: i64) -> i64
+fn axis_of(c: Power, n: i64, m: i64, cube: i64) -> i64
     requires { ⌜ FormSized (form c) × (natAbs n ≤ 2048) × (natAbs m ≤ 2048) × (natAbs cube ≤ 8589934592) × (0 < natAbs cube) × T (nonNeg cube) ⌝ }
     ensures axis { λ r. ⌜ r ≡ axisBy (form c) n m (natAbs cube) ⌝ }
 {
@@ -45,7 +45,7 @@ pub fn axis_of(c: Power, n: i64, m: i64, cube: i64) -> i64
     arithmetic::rounded(16 * a1 + 12 * a3, cube)
 }
 
-pub fn box_of(c: Power, n: i64, m: i64, cube: i64) -> i64
+fn box_of(c: Power, n: i64, m: i64, cube: i64) -> i64
     requires { ⌜ FormSized (form c) × (natAbs n ≤ 2048) × (natAbs m ≤ 2048) × (natAbs cube ≤ 8589934592) × (0 < natAbs cube) × T (nonNeg cube) × (natAbs (secondBy (form c) n m (natAbs cube)) ≤ 1000000000) × (natAbs (thirdBy (form c) (natAbs cube)) ≤ 1000000000) ⌝ }
     ensures half { λ r. ⌜ r ≡ boxBy (form c) n m (natAbs cube) ⌝ }
 {
@@ -57,7 +57,7 @@ pub fn box_of(c: Power, n: i64, m: i64, cube: i64) -> i64
 }
 
 // the strip of the piece with N = n and the middle m, in one coordinate
-pub fn extent_of(c: Power, n: usize, m: usize) -> Extent
+fn extent_of(c: Power, n: usize, m: usize) -> Extent
     requires { ⌜ FormSized (form c) × (2 ≤ n) × (n ≤ 2048) × (m ≤ n) ⌝ }
     ensures strip { λ r. ⌜ side r ≡ sideBy (form c) n m ⌝ }
 {
@@ -76,7 +76,7 @@ pub fn extent_of(c: Power, n: usize, m: usize) -> Extent
 
 // ---- short: no upright box half above the limit, which is 16 grains
 
-pub fn fits(s: Extent, limit: i64) -> bool
+fn fits(s: Extent, limit: i64) -> bool
     requires { ⌜ SideSized (side s) ⌝ }
     ensures short { λ r. ⌜ r ≡ fitsIn limit (side s) ⌝ }
 {
@@ -85,7 +85,7 @@ pub fn fits(s: Extent, limit: i64) -> bool
     arithmetic::abs(axis) + half <= limit
 }
 
-pub fn is_short(x: Extent, y: Extent, limit: i64) -> bool
+fn is_short(x: Extent, y: Extent, limit: i64) -> bool
     requires { ⌜ SideSized (side x) × SideSized (side y) ⌝ }
     ensures short { λ r. ⌜ r ≡ shortIn limit (side x) (side y) ⌝ }
 {
