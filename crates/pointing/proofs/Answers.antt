@@ -11,7 +11,7 @@ use lib.ListN.{length}
 use Rattle.model.specs.declared.Job.{Job}
 use Rattle.model.specs.declared.Nearest.{Nearest}
 use Rattle.model.specs.Refusals.{accepted}
-use Rattle.model.specs.Jobs.{coordinate, counted, ranged, celled, outline}
+use Rattle.model.specs.Jobs.{coordinate, counted, ranged, celled}
 use Rattle.model.specs.Trees.{trees, anyLong}
 use Rattle.model.specs.Store.{width, forest, nodesOf, storeOf, begins}
 use Rattle.model.specs.Distance.{lo, hi, Attains}
@@ -19,7 +19,7 @@ use Rattle.model.specs.Entries.{pointRefusal, EdgeFor, IsNearest}
 use Rattle.ranges.specs.Jobs.{JobSized, coordinate-in, ranged-sized, forest-sized}
 use Rattle.subtrees.specs.Begins.{begins-all}
 use Rattle.subtrees.specs.Counts.{sorted, none}
-use Rattle.subtrees.specs.Sizes.{few-trees, many-trees, some-node}
+use Rattle.subtrees.specs.Sizes.{forest-many, forest-some, forest-few}
 use Rattle.distance.specs.Answers.{TreesOf}
 use Rattle.pointing.specs.Checks.{asking, refusedWith}
 
@@ -91,8 +91,7 @@ module _ (j : Job) (x y : ℤ) (store : List ℤ) where
   -- ---- the checks of the trees and of the store
   module _ (p : Passed) where
     pub long-5 : cond (anyLong (forest j)) 0 (nodesOf j) ≡ 0 → pointRefusal j x y store ≡ 5
-    unfolding forest outline
-    long-5 e = p .is ∙ rw (none (anyLong (forest j)) (nodesOf j) (some-node (j .grain) (j .places) (j .count) 0 (p .job .some-edge)) e)
+    long-5 e = p .is ∙ rw (none (anyLong (forest j)) (nodesOf j) (forest-some j (p .job)) e)
 
     module _ (n : ℕ) (e : n ≡ cond (anyLong (forest j)) 0 (nodesOf j)) (h : n ≡ 0 → ⊥) where
       counted-is : (anyLong (forest j) ≡ false) × (n ≡ nodesOf j)
@@ -105,8 +104,7 @@ module _ (j : Job) (x y : ℤ) (store : List ℤ) where
       nodes-are = counted-is .1
 
       pub few-nodes : n ≤ 131072
-      unfolding forest outline
-      few-nodes = omega (arith, nodes-are, few-trees (j .grain) (j .places) (j .count) 0, p .job .few-edges)
+      few-nodes = omega (arith, nodes-are, forest-few j (p .job))
 
       pub store-6 : length store < 7 * n → pointRefusal j x y store ≡ 6
       store-6 l = p .is ∙ rw (none-long, lt-leb (width * nodesOf j) (length store) (omega (arith, nodes-are)))
@@ -122,8 +120,7 @@ module _ (j : Job) (x y : ℤ) (store : List ℤ) where
         accepted-0 z = p .is ∙ rw (none-long, room, sym i ∙ z)
 
     pub trees-many : length (forest j) ≡ j .count
-    unfolding forest outline
-    trees-many = many-trees (j .grain) (j .places) (j .count) 0
+    trees-many = forest-many j
 
     pub trees-there : begins store (storeOf j) ≡ true → TreesOf store (j .count)
     trees-there b = record { trees = forest j; many = trees-many; is = begins-all (forest j) store b; sized = forest-sized j (p .job) }

@@ -5,10 +5,12 @@ use Prim.Native.Nat.{ℕ, zero, suc, _+_, _*_, _≤_, _<_}
 use native.Mathlib.Omega.{arith}
 use lib.IntN.{ℤ, pos, _*ℤ_}
 use lib.ListN.{length}
-use Rattle.model.specs.Jobs.{Edge, edgeAt, edgesFrom}
+use Rattle.model.specs.declared.Job.{Job}
+use Rattle.model.specs.Jobs.{Edge, edgeAt, edgesFrom, outline}
 use Rattle.model.specs.Trees.{Tree, tree, trees}
-use Rattle.model.specs.Store.{size, sizes}
+use Rattle.model.specs.Store.{size, sizes, forest, nodesOf}
 use Rattle.ranges.specs.PowerForm.{formOf}
+use Rattle.ranges.specs.Jobs.{JobSized}
 use Rattle.subtrees.specs.Preorder.{size-pos}
 use Rattle.subtrees.specs.Subtrees.{tree-is}
 use Rattle.subtrees.specs.Halving.{few, whole-edge}
@@ -30,3 +32,20 @@ pub some-node : (g : ℤ) (l : List ℤ) (k e : ℕ) → 1 ≤ k → 1 ≤ sizes
 unfolding edgesFrom
 some-node g l zero e h = absurd (omega arith)
 some-node g l (suc k) e h = omega (arith, size-pos (tree g (edgeAt l e)))
+
+-- ---- of a job in range
+pub forest-is : (j : Job) → forest j ≡ trees (j .grain) (edgesFrom (j .places) (j .count) 0)
+unfolding forest outline
+forest-is j = refl
+
+pub forest-many : (j : Job) → length (forest j) ≡ j .count
+unfolding forest outline
+forest-many j = many-trees (j .grain) (j .places) (j .count) 0
+
+pub forest-some : (j : Job) → JobSized j → 1 ≤ nodesOf j
+unfolding forest outline
+forest-some j h = some-node (j .grain) (j .places) (j .count) 0 (h .some-edge)
+
+pub forest-few : (j : Job) → JobSized j → nodesOf j ≤ 131072
+unfolding forest outline
+forest-few j h = omega (arith, few-trees (j .grain) (j .places) (j .count) 0, h .few-edges)
