@@ -10,6 +10,14 @@ ghost use Rattle.integers.specs.Absolute.{absℤ};
 ghost use Rattle.integers.specs.Rounding.{nearest};
 ghost use Rattle.model.specs.Store.{width};
 
+// ---- a node in the store: how many numbers it has, where its node count stands, and where its left half's
+
+pub const WIDTH: usize = 7;
+
+pub const COUNT: usize = 6;
+
+pub const LEFT_COUNT: usize = WIDTH + COUNT;
+
 // ---- numbers
 
 pub fn abs(x: i64) -> i64
@@ -20,7 +28,7 @@ pub fn abs(x: i64) -> i64
 }
 
 // x / n rounded down. The machine's division goes toward zero, so a remainder below zero says that the quotient is one too high.
-pub fn floor_div(x: i64, n: i64) -> i64
+fn floor_div(x: i64, n: i64) -> i64
     requires { ⌜ (natAbs x ≤ 8000000000000000000) × (0 < natAbs n) × T (nonNeg n) ⌝ }
     ensures floor { λ r. ⌜ r ≡ shrZ x (natAbs n) ⌝ }
 {

@@ -1,6 +1,7 @@
 // Writes an edge's strip tree in preorder into a lent part of the store.
+use arithmetic::WIDTH;
+use powers::Power;
 use strips::Extent;
-use strips::Power;
 ghost use mathlib.Core.Path.{_≡_};
 ghost use mathlib.Core.Bool.{false};
 ghost use mathlib.Core.List.{_++_};
@@ -12,10 +13,11 @@ ghost use Rattle.ranges.specs.Sizes.{SideSized};
 ghost use Rattle.ranges.specs.PowerForm.{FormSized};
 ghost use Rattle.subtrees.specs.Subtrees.{subtree};
 ghost use Rattle.subtrees.specs.Halving.{Halvable};
-ghost use Rattle.strips.specs.Structs.{form, side, stripOf};
+ghost use Rattle.powers.specs.Structs.{form};
+ghost use Rattle.strips.specs.Structs.{side, stripOf};
 
 // writes a node's numbers at the front of s
-pub fn put(s: &mut [i32], x: Extent, y: Extent, nodes: usize)
+fn put(s: &mut [i32], x: Extent, y: Extent, nodes: usize)
     requires { ⌜ (width ≤ length (now s)) × SideSized (side x) × SideSized (side y) × (nodes < 4096) ⌝ }
     ensures written { λ _. ⌜ now (s .exit) ≡ numbers (stripOf x y) nodes (drop width (now (s .entry))) ⌝ }
 {
@@ -51,8 +53,8 @@ pub fn build(
         put(s, x, y, 1);
         return 1;
     }
-    let l = build(&mut s[7..], cx, cy, left - 1, 2 * n, 2 * m - 1, limit);
-    let mid = 7 + 7 * l;
+    let l = build(&mut s[WIDTH..], cx, cy, left - 1, 2 * n, 2 * m - 1, limit);
+    let mid = WIDTH + WIDTH * l;
     let r = build(&mut s[mid..], cx, cy, left - 1, 2 * n, 2 * m + 1, limit);
     let nodes = 1 + l + r;
     put(s, x, y, nodes);

@@ -1,6 +1,8 @@
 // Does a store begin with an edge's strip tree: compared number by number as the tree is walked, up to the first difference.
+use arithmetic::COUNT;
+use arithmetic::WIDTH;
+use powers::Power;
 use strips::Extent;
-use strips::Power;
 ghost use mathlib.Core.Path.{_≡_};
 ghost use mathlib.Core.Bool.{false};
 ghost use Prim.Native.Nat.{_*_, _≤_, _<_};
@@ -13,11 +15,12 @@ ghost use Rattle.ranges.specs.PowerForm.{FormSized};
 ghost use Rattle.subtrees.specs.Preorder.{countPlace, HasSide, HasStrip, Begins};
 ghost use Rattle.subtrees.specs.Subtrees.{subtree};
 ghost use Rattle.subtrees.specs.Halving.{Halvable};
-ghost use Rattle.strips.specs.Structs.{form, side, stripOf};
+ghost use Rattle.powers.specs.Structs.{form};
+ghost use Rattle.strips.specs.Structs.{side, stripOf};
 ghost use Rattle.checking.specs.Answers.{Unless, Told};
 
 // is number i of s other than v
-pub fn differs(s: &[i32], i: usize, v: i64) -> bool
+fn differs(s: &[i32], i: usize, v: i64) -> bool
     requires { ⌜ i < length (now s) ⌝ }
     ensures unless { λ r. ⌜ Unless r (getD (now (s .entry)) i (pos 0) ≡ v) ⌝ }
 {
@@ -26,15 +29,15 @@ pub fn differs(s: &[i32], i: usize, v: i64) -> bool
 }
 
 // is the first node's count other than this
-pub fn differs_count(s: &[i32], nodes: usize) -> bool
+fn differs_count(s: &[i32], nodes: usize) -> bool
     requires { ⌜ (width ≤ length (now s)) × (nodes < 4096) ⌝ }
     ensures unless { λ r. ⌜ Unless r (getD (now (s .entry)) countPlace (pos 0) ≡ pos nodes) ⌝ }
 {
-    differs(s, 6, nodes as i64)
+    differs(s, COUNT, nodes as i64)
 }
 
 // is the first node's strip another one in coordinate i
-pub fn differs_side(s: &[i32], i: usize, v: Extent) -> bool
+fn differs_side(s: &[i32], i: usize, v: Extent) -> bool
     requires { ⌜ (i < 2) × (width ≤ length (now s)) × SideSized (side v) ⌝ }
     ensures unless { λ r. ⌜ Unless r (HasSide (now (s .entry)) i (side v)) ⌝ }
 {
@@ -47,7 +50,7 @@ pub fn differs_side(s: &[i32], i: usize, v: Extent) -> bool
     differs(s, i + 4, v.half)
 }
 
-pub fn differs_strip(s: &[i32], x: Extent, y: Extent) -> bool
+fn differs_strip(s: &[i32], x: Extent, y: Extent) -> bool
     requires { ⌜ (width ≤ length (now s)) × SideSized (side x) × SideSized (side y) ⌝ }
     ensures unless { λ r. ⌜ Unless r (HasStrip (now (s .entry)) (stripOf x y)) ⌝ }
 {
@@ -83,11 +86,11 @@ pub fn begins_with(
         }
         return 1;
     }
-    let l = begins_with(&s[7..], cx, cy, left - 1, 2 * n, 2 * m - 1, limit);
+    let l = begins_with(&s[WIDTH..], cx, cy, left - 1, 2 * n, 2 * m - 1, limit);
     if l == 0 {
         return 0;
     }
-    let mid = 7 + 7 * l;
+    let mid = WIDTH + WIDTH * l;
     let r = begins_with(&s[mid..], cx, cy, left - 1, 2 * n, 2 * m + 1, limit);
     if r == 0 {
         return 0;

@@ -1,11 +1,11 @@
 // How many nodes an edge's strip tree has, or that it is long, without a store.
-use strips::Power;
+use powers::Power;
 ghost use mathlib.Core.Path.{_≡_};
 ghost use Rattle.ranges.specs.PowerForm.{FormSized};
 ghost use Rattle.subtrees.specs.Subtrees.{subtree};
 ghost use Rattle.subtrees.specs.Halving.{Halvable};
 ghost use Rattle.subtrees.specs.Counts.{count};
-ghost use Rattle.strips.specs.Structs.{form};
+ghost use Rattle.powers.specs.Structs.{form};
 
 // The nodes of the subtree of the piece with N = n and the middle m, or 0 if some piece of it is too long.
 pub fn nodes_of(cx: Power, cy: Power, left: usize, n: usize, m: usize, limit: i64) -> usize

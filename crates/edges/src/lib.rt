@@ -1,5 +1,5 @@
 // One edge of a job, by its place among the job's 512 numbers: its strip tree counted, built and checked.
-use strips::Power;
+use powers::Power;
 ghost use mathlib.Core.Path.{_≡_};
 ghost use mathlib.Core.Bool.{false};
 ghost use mathlib.Core.List.{_++_};
@@ -13,10 +13,10 @@ ghost use Rattle.ranges.specs.PowerForm.{formOf};
 ghost use Rattle.ranges.specs.Jobs.{Limits};
 ghost use Rattle.subtrees.specs.Preorder.{Begins};
 ghost use Rattle.subtrees.specs.Counts.{count};
-ghost use Rattle.strips.specs.Structs.{form};
+ghost use Rattle.powers.specs.Structs.{form};
 ghost use Rattle.checking.specs.Answers.{Told};
 
-pub fn control(places: &[i32; 512], i: usize) -> i64
+fn control(places: &[i32; 512], i: usize) -> i64
     requires { ⌜ i < 512 ⌝ }
     ensures element { λ r. ⌜ r ≡ getD (now (places .entry)) i (pos 0) ⌝ }
 {
@@ -24,7 +24,7 @@ pub fn control(places: &[i32; 512], i: usize) -> i64
 }
 
 // the power form of edge e in coordinate i
-pub fn power_of(places: &[i32; 512], e: usize, i: usize) -> Power
+fn power_of(places: &[i32; 512], e: usize, i: usize) -> Power
     requires { ⌜ Limits (now places) × (e < 64) × (i < 2) ⌝ }
     ensures power { λ r. ⌜ form r ≡ formOf (cubicAt (now (places .entry)) (8 * e + i)) ⌝ }
 {
@@ -33,7 +33,7 @@ pub fn power_of(places: &[i32; 512], e: usize, i: usize) -> Power
     let b1 = control(places, b + 2);
     let b2 = control(places, b + 4);
     let b3 = control(places, b + 6);
-    strips::power_form(b0, b1, b2, b3)
+    powers::power_form(b0, b1, b2, b3)
 }
 
 // ---- a whole edge is the piece with N = 2 and the middle 1, which may be halved ten times; it is short up to 16 grains

@@ -1,31 +1,25 @@
 -- One edge more: what counting, building and comparing its tree adds to what the later edges give. Assumes nothing.
-use mathlib.Core.Path.{_≡_, refl, sym, ap, _∙_, subst}
-use mathlib.Core.Bool.{Bool, true, false, cond, _||_}
-use mathlib.Core.List.{List, [], _∷_, _++_}
-use Prim.Native.Nat.{ℕ, _+_, _*_, _-_, _≤_, _<_}
+use mathlib.Core.Path.{_≡_, refl, sym, ap, _∙_}
+use mathlib.Core.Bool.{Bool, true, false, cond}
+use mathlib.Core.List.{List, _∷_, _++_}
+use Prim.Native.Nat.{ℕ, _+_, _*_, _-_, _≤_}
 use native.Mathlib.Omega.{arith}
 use borrow.Rule.Slice.PartMut.{putMid, midOf}
-use lib.IntN.{ℤ, pos, natAbs}
-use lib.Dec.{T}
+use lib.IntN.{ℤ}
 use mir.Syntax.{w32, w64}
 use mir.Val.{SFits, toZ, ofZ}
 use mir.Facts.{toZ-ofZ, sfits-widen}
 use lib.ListN.{length, take, drop, length-append, length-drop}
 use lib.Seq.{take-at}
 use Rattle.sequences.specs.Parts.{tail-mid, tail-put}
-use Rattle.model.specs.Jobs.{Edge, edgeAt}
+use Rattle.model.specs.Jobs.{edgeAt}
 use Rattle.model.specs.Trees.{Tree, tree, isLong, anyLong}
 use Rattle.model.specs.Store.{width, size, sizes, flatten, flattenAll, begins}
-use Rattle.ranges.specs.PowerForm.{formOf}
 use Rattle.subtrees.specs.Preorder.{Begins, BeginsAll, length-flatten, later, joined, all-yes, all-others}
 use Rattle.subtrees.specs.Begins.{begins-all, all-begins}
-use Rattle.subtrees.specs.Subtrees.{tree-is}
-use Rattle.subtrees.specs.Halving.{few, whole-edge, or-left, or-right}
+use Rattle.subtrees.specs.Halving.{or-left, or-right}
 use Rattle.subtrees.specs.Counts.{count, lost}
 use Rattle.forests.specs.Walk.{treesFrom, more-is, Says}
-
-pub few-nodes : (g : ℤ) (e : Edge) → size (tree g e) < 2048
-few-nodes g e = subst (λ (t : Tree). size t < 2048) (tree-is g e) (few _ (formOf (e .x)) (formOf (e .y)) 10 2 1 whole-edge)
 
 -- ---- counting
 pub count-stop : (t : Tree) (us : List Tree) (s : ℕ) → count t ≡ 0 → 0 ≡ cond (anyLong (t ∷ us)) 0 (s + sizes (t ∷ us))

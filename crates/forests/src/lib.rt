@@ -1,4 +1,5 @@
 // A job's strip trees, edge after edge: counted, built into a store, and compared with one. Document 01, "The store".
+use arithmetic::WIDTH;
 ghost use mathlib.Core.Path.{_≡_};
 ghost use mathlib.Core.Bool.{false, cond};
 ghost use mathlib.Core.List.{_++_};
@@ -38,7 +39,7 @@ fn build_from(s: &mut [i32], places: &[i32; 512], e: usize, count: usize, grain:
         return;
     }
     let k = edges::build_edge(s, places, e, grain);
-    let at = 7 * k;
+    let at = WIDTH * k;
     build_from(&mut s[at..], places, e + 1, count, grain);
 }
 
@@ -54,7 +55,7 @@ fn holds_from(s: &[i32], places: &[i32; 512], e: usize, count: usize, grain: i64
     if k == 0 {
         return false;
     }
-    let at = 7 * k;
+    let at = WIDTH * k;
     holds_from(&s[at..], places, e + 1, count, grain)
 }
 

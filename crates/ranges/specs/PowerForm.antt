@@ -12,7 +12,7 @@ use Rattle.integers.specs.Rounding.{nearest}
 use Rattle.model.specs.Jobs.{Cubic}
 use Rattle.model.specs.Strips as model
 use Rattle.model.specs.Strips.{Side, sideAt}
-use Rattle.ranges.specs.Bounds.{add-in, sub-in, mul-in, nearest-in, abs-size}
+use Rattle.ranges.specs.Bounds.{add-in, sub-in, mul-in, nearest-in}
 use Rattle.ranges.specs.Sizes.{ControlSized, SideSized}
 
 -- ---- the power form, and what it gives for the piece with N = n and the middle m

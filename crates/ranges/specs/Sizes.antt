@@ -2,11 +2,11 @@
 -- and still small enough that no step of a search leaves 64 bits: with |w| ≤ 2^30, |axis| ≤ 2^29 and box ≤ 2^27 the cross product stays
 -- below 2^61, p² + q² below 2^60 and the sum of squares of the inside test below 2^63. Assumes nothing.
 use mathlib.Core.List.{List, [], _∷_}
-use Prim.Native.Nat.{ℕ, _≤_}
+use Prim.Native.Nat.{_≤_}
 use lib.Dec.{T}
-use lib.IntN.{ℤ, natAbs}
+use lib.IntN.{natAbs}
 use lib.Signed.{nonNeg}
-use Rattle.model.specs.Jobs.{Cubic, Edge}
+use Rattle.model.specs.Jobs.{Cubic}
 use Rattle.model.specs.Strips.{Side, Strip}
 use Rattle.model.specs.Trees.{Tree, leaf, long, node}
 

@@ -1,5 +1,5 @@
 -- Every strip of every piece of an edge, every tree and every job's trees are within the sizes of `Sizes`. Assumes nothing.
-use mathlib.Core.Path.{_≡_, refl, sym, ap, _∙_, subst}
+use mathlib.Core.Path.{_≡_, subst}
 use mathlib.Core.Bool.{Bool, true, false}
 use mathlib.Core.List.{List, [], _∷_}
 use Prim.Native.Nat.{ℕ, zero, suc, _+_, _*_, _^_, _≤_, _<_}
@@ -9,8 +9,8 @@ use native.Mathlib.Omega.{arith}
 use lib.Pow.{pow-pos}
 use lib.IntN.{ℤ}
 use Rattle.model.specs.Jobs.{Cubic, Edge}
-use Rattle.model.specs.Strips.{Side, Strip, denominator, middle, sideAt, strip, short}
-use Rattle.model.specs.Trees.{Tree, leaf, long, node, pieces, tree, trees}
+use Rattle.model.specs.Strips.{denominator, middle, sideAt, strip, short}
+use Rattle.model.specs.Trees.{leaf, long, node, pieces, tree, trees}
 use Rattle.ranges.specs.Sizes.{ControlSized, SideSized, Sized, AllSized, EachSized}
 use Rattle.ranges.specs.PowerForm.{formOf, form-sized, by-sized, side-is}
 

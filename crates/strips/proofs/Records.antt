@@ -5,13 +5,9 @@ use lib.Dec.{T, ltb}
 use lib.IntN.{ℤ, natAbs}
 use Rattle.integers.specs.Signed.{Made, fits64}
 use Rattle.model.specs.Strips.{Side}
-use Rattle.ranges.specs.PowerForm.{Form}
 
 pub side-eq : {a b c p q r : ℤ} → a ≡ p → b ≡ q → c ≡ r → _≡_ {A = Side} (record { centre = a; axis = b; box = c }) (record { centre = p; axis = q; box = r })
 side-eq e f g = cc
-
-pub form-eq : {a b c d p q r s : ℤ} → a ≡ p → b ≡ q → c ≡ r → d ≡ s → _≡_ {A = Form} (record { c0 = a; c1 = b; c2 = c; c3 = d }) (record { c0 = p; c1 = q; c2 = r; c3 = s })
-form-eq e f g h = cc
 
 -- a call's result, which is z and at most B
 pub got : {r z : ℤ} {B : ℕ} → r ≡ z → natAbs r ≤ B → T (ltb B (2 ^ 63)) → Made r z B

@@ -1,21 +1,15 @@
 // The strip of a piece of an edge, from the edge's power form, in 64-bit numbers. Document 01, "Strips".
+use powers::Power;
 ghost use mathlib.Core.Path.{_≡_};
 ghost use Prim.Native.Nat.{_≤_, _<_};
 ghost use lib.Dec.{T};
 ghost use lib.IntN.{natAbs};
 ghost use lib.Signed.{nonNeg};
-ghost use Rattle.ranges.specs.Sizes.{ControlSized, SideSized};
-ghost use Rattle.ranges.specs.PowerForm.{formOf, FormSized, a0, a1, a2, centreBy, axisBy, secondBy, thirdBy, boxBy, sideBy};
+ghost use Rattle.ranges.specs.Sizes.{SideSized};
+ghost use Rattle.ranges.specs.PowerForm.{FormSized, centreBy, axisBy, secondBy, thirdBy, boxBy, sideBy};
 ghost use Rattle.subtrees.specs.Subtrees.{fitsIn, shortIn, shortBy};
-ghost use Rattle.strips.specs.Structs.{cubic, form, side};
-
-// The power form in one coordinate.
-pub struct Power {
-    pub c0: i64,
-    pub c1: i64,
-    pub c2: i64,
-    pub c3: i64,
-}
+ghost use Rattle.powers.specs.Structs.{form};
+ghost use Rattle.strips.specs.Structs.{side};
 
 // A strip in one coordinate: its centre, its axis and half its box.
 pub struct Extent {
@@ -31,78 +25,31 @@ pub struct Piece {
     pub short: bool,
 }
 
-pub fn power_form(b0: i64, b1: i64, b2: i64, b3: i64) -> Power
-    requires { ⌜ ControlSized (cubic b0 b1 b2 b3) ⌝ }
-    ensures power { λ r. ⌜ form r ≡ formOf (cubic b0 b1 b2 b3) ⌝ }
-{
-    let c1 = 3 * (b1 - b0);
-    let c2 = 3 * (b0 - 2 * b1 + b2);
-    let c3 = b3 - 3 * b2 + 3 * b1 - b0;
-    Power {
-        c0: b0,
-        c1: c1,
-        c2: c2,
-        c3: c3,
-    }
-}
-
-// ---- a0 to a2 of the piece with N = n and the middle m; a3 is c3. Each says how large it is: a caller multiplies it.
-
-pub fn a0_of(c: Power, n: i64, m: i64) -> i64
-    requires { ⌜ FormSized (form c) × (natAbs n ≤ 2048) × (natAbs m ≤ 2048) ⌝ }
-    ensures a0 { λ r. ⌜ (r ≡ a0 (form c) n m) × (natAbs r ≤ 231928233984000000) ⌝ }
-{
-    let c0 = c.c0;
-    let c1 = c.c1;
-    let c2 = c.c2;
-    let c3 = c.c3;
-    c0 * (n * n * n) + c1 * (n * n) * m + c2 * n * (m * m) + c3 * (m * m * m)
-}
-
-pub fn a1_of(c: Power, n: i64, m: i64) -> i64
-    requires { ⌜ FormSized (form c) × (natAbs n ≤ 2048) × (natAbs m ≤ 2048) ⌝ }
-    ensures a1 { λ r. ⌜ (r ≡ a1 (form c) n m) × (natAbs r ≤ 226492416000000) ⌝ }
-{
-    let c1 = c.c1;
-    let c2 = c.c2;
-    let c3 = c.c3;
-    c1 * (n * n) + 2 * c2 * n * m + 3 * c3 * (m * m)
-}
-
-pub fn a2_of(c: Power, n: i64, m: i64) -> i64
-    requires { ⌜ FormSized (form c) × (natAbs n ≤ 2048) × (natAbs m ≤ 2048) ⌝ }
-    ensures a2 { λ r. ⌜ (r ≡ a2 (form c) n m) × (natAbs r ≤ 73728000000) ⌝ }
-{
-    let c2 = c.c2;
-    let c3 = c.c3;
-    c2 * n + 3 * c3 * m
-}
-
 // ---- the four quotients by N³, a power of two, and the box
 
-pub fn centre_of(c: Power, n: i64, m: i64, cube: i64) -> i64
+fn centre_of(c: Power, n: i64, m: i64, cube: i64) -> i64
     requires { ⌜ FormSized (form c) × (natAbs n ≤ 2048) × (natAbs m ≤ 2048) × (natAbs cube ≤ 8589934592) × (0 < natAbs cube) × T (nonNeg cube) ⌝ }
     ensures centre { λ r. ⌜ r ≡ centreBy (form c) n m (natAbs cube) ⌝ }
 {
-    let a0 = a0_of(c, n, m);
-    let a2 = a2_of(c, n, m);
+    let a0 = powers::a0_of(c, n, m);
+    let a2 = powers::a2_of(c, n, m);
     arithmetic::rounded(16 * a0 + 8 * a2, cube)
 }
 
-pub fn axis_of(c: Power, n: i64, m: i64, cube: i64) -> i64
+fn axis_of(c: Power, n: i64, m: i64, cube: i64) -> i64
     requires { ⌜ FormSized (form c) × (natAbs n ≤ 2048) × (natAbs m ≤ 2048) × (natAbs cube ≤ 8589934592) × (0 < natAbs cube) × T (nonNeg cube) ⌝ }
     ensures axis { λ r. ⌜ r ≡ axisBy (form c) n m (natAbs cube) ⌝ }
 {
-    let a1 = a1_of(c, n, m);
+    let a1 = powers::a1_of(c, n, m);
     let a3 = c.c3;
     arithmetic::rounded(16 * a1 + 12 * a3, cube)
 }
 
-pub fn box_of(c: Power, n: i64, m: i64, cube: i64) -> i64
+fn box_of(c: Power, n: i64, m: i64, cube: i64) -> i64
     requires { ⌜ FormSized (form c) × (natAbs n ≤ 2048) × (natAbs m ≤ 2048) × (natAbs cube ≤ 8589934592) × (0 < natAbs cube) × T (nonNeg cube) × (natAbs (secondBy (form c) n m (natAbs cube)) ≤ 1000000000) × (natAbs (thirdBy (form c) (natAbs cube)) ≤ 1000000000) ⌝ }
     ensures half { λ r. ⌜ r ≡ boxBy (form c) n m (natAbs cube) ⌝ }
 {
-    let a2 = a2_of(c, n, m);
+    let a2 = powers::a2_of(c, n, m);
     let a3 = c.c3;
     let second = arithmetic::rounded(8 * a2, cube);
     let third = arithmetic::rounded(4 * a3, cube);
@@ -110,7 +57,7 @@ pub fn box_of(c: Power, n: i64, m: i64, cube: i64) -> i64
 }
 
 // the strip of the piece with N = n and the middle m, in one coordinate
-pub fn extent_of(c: Power, n: usize, m: usize) -> Extent
+fn extent_of(c: Power, n: usize, m: usize) -> Extent
     requires { ⌜ FormSized (form c) × (2 ≤ n) × (n ≤ 2048) × (m ≤ n) ⌝ }
     ensures strip { λ r. ⌜ side r ≡ sideBy (form c) n m ⌝ }
 {
@@ -129,7 +76,7 @@ pub fn extent_of(c: Power, n: usize, m: usize) -> Extent
 
 // ---- short: no upright box half above the limit, which is 16 grains
 
-pub fn fits(s: Extent, limit: i64) -> bool
+fn fits(s: Extent, limit: i64) -> bool
     requires { ⌜ SideSized (side s) ⌝ }
     ensures short { λ r. ⌜ r ≡ fitsIn limit (side s) ⌝ }
 {
@@ -138,7 +85,7 @@ pub fn fits(s: Extent, limit: i64) -> bool
     arithmetic::abs(axis) + half <= limit
 }
 
-pub fn is_short(x: Extent, y: Extent, limit: i64) -> bool
+fn is_short(x: Extent, y: Extent, limit: i64) -> bool
     requires { ⌜ SideSized (side x) × SideSized (side y) ⌝ }
     ensures short { λ r. ⌜ r ≡ shortIn limit (side x) (side y) ⌝ }
 {

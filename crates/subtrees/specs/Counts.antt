@@ -4,21 +4,21 @@ use mathlib.Core.Bool.{Bool, true, false, cond, _||_}
 use Prim.Native.Nat.{ℕ, _+_, _≤_}
 use native.Mathlib.Omega.{arith}
 use Rattle.model.specs.Strips.{Strip}
-use Rattle.model.specs.Trees.{Tree, leaf, long, node, isLong}
+use Rattle.model.specs.Trees.{Tree, long, node, isLong}
 use Rattle.model.specs.Store.{size}
 use Rattle.subtrees.specs.Preorder.{size-pos}
 
 abbrev pub count : Tree → ℕ
 count t = cond (isLong t) 0 (size t)
 
-sorted : (b : Bool) (n : ℕ) → (cond b 0 n ≡ 0 → ⊥) → (b ≡ false) × (cond b 0 n ≡ n)
+pub sorted : (b : Bool) (n : ℕ) → (cond b 0 n ≡ 0 → ⊥) → (b ≡ false) × (cond b 0 n ≡ n)
 sorted true n h = absurd (h refl)
 sorted false n h = (refl, refl)
 
 pub kept : (t : Tree) → (count t ≡ 0 → ⊥) → (isLong t ≡ false) × (count t ≡ size t)
 kept t h = sorted (isLong t) (size t) h
 
-none : (b : Bool) (n : ℕ) → 1 ≤ n → cond b 0 n ≡ 0 → b ≡ true
+pub none : (b : Bool) (n : ℕ) → 1 ≤ n → cond b 0 n ≡ 0 → b ≡ true
 none true n h e = refl
 none false n h e = absurd (omega arith)
 

@@ -1,6 +1,8 @@
 -- The subtree of a piece as code walks it, and lists that begin with a tree in preorder.
 pub mod Preorder
 pub mod Begins
+pub mod Halves
 pub mod Subtrees
 pub mod Halving
 pub mod Counts
+pub mod Sizes

@@ -1,7 +1,7 @@
 -- The subtree of a piece from the power forms, by N and the middle, as code walks it. `tree-is`: it is the model's tree. Assumes nothing.
-use mathlib.Core.Path.{_≡_, refl, sym, ap, ap₂, _∙_}
+use mathlib.Core.Path.{_≡_, refl, ap, ap₂, _∙_}
 use mathlib.Core.Bool.{Bool, true, false, _&&_}
-use Prim.Native.Nat.{ℕ, zero, suc, _+_, _*_, _-_, _^_, _≤_, _<_}
+use Prim.Native.Nat.{ℕ, zero, suc, _+_, _*_, _-_, _^_}
 use native.Mathlib.Numerals.{add-one}
 use native.Mathlib.Nat.{pow-suc}
 use native.Mathlib.Omega.{arith}
@@ -11,7 +11,7 @@ use Rattle.integers.specs.Absolute.{absℤ}
 use Rattle.model.specs.Jobs.{Edge}
 use Rattle.model.specs.Strips.{Side, Strip, denominator, middle, sideAt, strip, short}
 use Rattle.model.specs.Trees.{Tree, leaf, long, node, pieces, tree}
-use Rattle.ranges.specs.PowerForm.{Form, formOf, sideBy, side-is}
+use Rattle.ranges.specs.PowerForm.{Form, formOf, sideBy}
 
 unfoldable pub stripBy : Form → Form → ℕ → ℕ → Strip
 stripBy fx fy n m = record { x = sideBy fx n m; y = sideBy fy n m }

@@ -1,3 +1,4 @@
+-- By the sign. Assumes nothing.
 use mathlib.Core.Path.{_∙_}
 use Rattle.integers.specs.Absolute.{absℤ}
 use Rattle.arithmetic.proofs.abs.Statement.{statement}

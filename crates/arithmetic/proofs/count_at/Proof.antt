@@ -1,3 +1,4 @@
+-- A stored number that is not below 0 fits as a count. Assumes nothing.
 use borrow.Author.Needs.{needs, sfits-of}
 use lib.ListN.{getD}
 use lib.IntN.{pos}

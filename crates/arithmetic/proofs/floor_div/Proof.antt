@@ -1,8 +1,6 @@
-use mathlib.Core.Path.{_∙_, sym}
-use mathlib.Core.Bool.{cond}
-use Prim.Native.Nat.{ℕ}
-use lib.IntN.{pos, natAbs, _-ℤ_}
-use lib.Signed.{quotZ, remZ, shrZ}
+-- By the remainder's sign. Assumes nothing.
+use mathlib.Core.Path.{_∙_}
+use lib.IntN.{pos, natAbs}
 use Rattle.arithmetic.proofs.floor_div.Statement.{statement}
 use Rattle.arithmetic.proofs.floor_div.Tie as tie
 use Rattle.integers.specs.Signed.{Made, arg, arg-pos, lit, minus, over, rest, above-zero, back, test-lt, floor-law}

@@ -1,6 +1,5 @@
+-- A number within the bound fits 32 bits. Assumes nothing.
 use mir.Facts.{toZ-ofZ}
-use native.Mathlib.Omega.{arith}
-use mathlib.Core.Path.{_∙_}
 use Rattle.arithmetic.proofs.narrow.Statement.{statement}
 use Rattle.arithmetic.proofs.narrow.Tie as tie
 use Rattle.integers.specs.Signed.{fits32}

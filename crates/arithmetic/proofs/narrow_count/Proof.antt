@@ -1,17 +1,14 @@
+-- A count within the bound fits 32 bits. Assumes nothing.
 use mir.Facts.{toZ-pos}
 use mir.Syntax.{w32}
 use native.Mathlib.Omega.{arith}
 use borrow.Author.Needs.{needs}
 use Rattle.arithmetic.proofs.narrow_count.Statement.{statement}
 use Rattle.arithmetic.proofs.narrow_count.Tie as tie
-use Rattle.arithmetic.proofs.narrow_count.Reads as reads
-use Rattle.arithmetic.proofs.narrow_count.Lts as lts
 
--- src/lib.rt:25:5
 cast-result : tie.Need-cast-result
 cast-result c = search needs
 
--- src/lib.rt:21:1
 returns : tie.Need-returns
 returns c = toZ-pos w32 (omega arith)
 

@@ -1,3 +1,4 @@
+-- Seven stores, each within the slice. Assumes nothing.
 use borrow.Author.Needs.{needs}
 use native.Mathlib.Omega.{arith}
 use lib.ListN.{length-set}
@@ -5,42 +6,31 @@ use mir.Facts.{toZ-ofZ}
 use Rattle.arithmetic.proofs.Stores.{seven}
 use Rattle.arithmetic.proofs.put_node.Statement.{statement}
 use Rattle.arithmetic.proofs.put_node.Tie as tie
-use Rattle.arithmetic.proofs.put_node.Reads as reads
-use Rattle.arithmetic.proofs.put_node.Lts as lts
 
--- src/lib.rt:27:5
 slice-set-from-a : tie.Need-slice-set-from-a
 slice-set-from-a c = search needs
 
--- src/lib.rt:28:5
 slice-set-from-b : tie.Need-slice-set-from-b
 slice-set-from-b c = simp length-set (omega arith)
 
--- src/lib.rt:29:5
 slice-set-from-c : tie.Need-slice-set-from-c
 slice-set-from-c c = simp length-set (omega arith)
 
--- src/lib.rt:30:5
 slice-set-from-d : tie.Need-slice-set-from-d
 slice-set-from-d c = simp length-set (omega arith)
 
--- src/lib.rt:31:5
 slice-set-from-e : tie.Need-slice-set-from-e
 slice-set-from-e c = simp length-set (omega arith)
 
--- src/lib.rt:32:5
 slice-set-from-f : tie.Need-slice-set-from-f
 slice-set-from-f c = simp length-set (omega arith)
 
--- src/lib.rt:33:5
 slice-set-from-g : tie.Need-slice-set-from-g
 slice-set-from-g c = simp length-set (omega arith)
 
--- src/lib.rt:23:1
 same-length : tie.Need-same-length
 same-length c = simp length-set
 
--- src/lib.rt:23:1
 returns : tie.Need-returns
 returns c =
     let f = c .fits in

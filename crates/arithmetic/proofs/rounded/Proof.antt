@@ -1,6 +1,5 @@
-use mathlib.Core.Path.{_∙_, sym, ap, subst}
-use lib.IntN.{ℤ, pos, natAbs, _+ℤ_, _*ℤ_}
-use lib.Signed.{shrZ}
+-- 2 x + n and 2 n do not wrap, and the half is that of `nearest`. Assumes nothing.
+use lib.IntN.{pos, natAbs}
 use mir.Syntax.{w64}
 use borrow.Author.Needs.{sfits-of}
 use mir.Facts.{toZ-ofZ}

@@ -1,3 +1,4 @@
+-- A stored number fits where it is widened. Assumes nothing.
 use borrow.Author.Needs.{needs, sfits-of}
 use lib.ListN.{getD}
 use lib.IntN.{pos}

@@ -1,22 +1,22 @@
 -- The measure is the halvings that are left. `both` joins what the two calls leave in their parts. Assumes nothing.
 use mathlib.Core.Path.{_≡_, refl, sym, ap, ap₂, _∙_, subst}
-use mathlib.Core.Bool.{true, false}
-use mathlib.Core.List.{List, _++_}
+use mathlib.Core.List.{_++_}
 use Prim.Native.Nat.{suc, _+_, _*_, _-_, _≤_}
 use native.Mathlib.Omega.{arith}
 use borrow.Author.Needs.{needs}
 use mir.Facts.{toZ-ofZ}
 use lib.ListN.{length, drop, length-drop}
-use Rattle.sequences.specs.Parts.{tail-mid, tail-put}
+use Rattle.sequences.specs.Parts.{tail-mid}
 use Rattle.model.specs.Strips.{Side, Strip}
-use Rattle.model.specs.Trees.{Tree, leaf, long, node, isLong}
+use Rattle.model.specs.Trees.{Tree}
 use Rattle.model.specs.Store.{width, size, flatten}
 use Rattle.ranges.specs.Sizes.{SideSized}
 use Rattle.ranges.specs.PowerForm.{by-sized}
 use Rattle.subtrees.specs.Preorder.{size-pos}
 use Rattle.subtrees.specs.Subtrees.{stripBy, shortBy, subtree}
-use Rattle.subtrees.specs.Halving.{Halvable, at-short, few, n-in, left-half, right-half, Forked, forked}
-use Rattle.strips.specs.Structs.{form, side, stripOf}
+use Rattle.subtrees.specs.Halving.{at-short, few, n-in, left-half, right-half, Forked, forked}
+use Rattle.powers.specs.Structs.{form}
+use Rattle.strips.specs.Structs.{side, stripOf}
 use Rattle.building.proofs.Halves.{both, put-eq}
 use Prim.Native.Nat.{ℕ, _<_}
 use borrow.Fn.Kinds.{In}

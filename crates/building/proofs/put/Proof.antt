@@ -1,17 +1,12 @@
 -- Each number is narrowed by itself; the store then has them in order. Assumes nothing.
-use mathlib.Core.Path.{_≡_, refl, sym, ap, _∙_}
+use mathlib.Core.Path.{_∙_}
 use native.Mathlib.Omega.{arith}
-use Prim.Native.Nat.{_<_, _^_}
-use mir.Syntax.{w32}
-use mir.Facts.{toZ-pos}
 use lib.ListN.{drop}
 use Rattle.integers.specs.Signed.{read32}
 use Rattle.building.proofs.Halves.{fit, cell, seven}
 use borrow.Author.Needs.{needs}
 use Rattle.building.proofs.put.Statement.{statement}
 use Rattle.building.proofs.put.Tie as tie
-use Rattle.building.proofs.put.Reads as reads
-use Rattle.building.proofs.put.Lts as lts
 
 narrow-requires : tie.Need-narrow-requires
 narrow-requires c κs = fit (c .before .args .x .centre) 536870912 (c .before .pre .1 .centre-size) tt

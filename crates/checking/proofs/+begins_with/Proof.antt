@@ -1,23 +1,21 @@
 -- The measure is the halvings that are left. Each return is one of the answers of `Found`. Assumes nothing.
-use mathlib.Core.Path.{_≡_, refl, sym, ap, ap₂, _∙_, subst}
-use mathlib.Core.Bool.{true, false}
-use mathlib.Core.Logic.{_⊎_, inl, inr}
-use mathlib.Core.List.{List, _++_}
+use mathlib.Core.Path.{_≡_, sym, ap, ap₂, _∙_, subst}
 use Prim.Native.Nat.{suc, _+_, _*_, _-_, _≤_}
 use native.Mathlib.Omega.{arith}
 use mir.Facts.{toZ-ofZ}
-use lib.IntN.{ℤ, pos}
+use lib.IntN.{pos}
 use lib.ListN.{length, getD, drop, length-drop}
 use Rattle.model.specs.Strips.{Side, Strip}
-use Rattle.model.specs.Trees.{Tree, leaf, long, node, isLong}
+use Rattle.model.specs.Trees.{Tree}
 use Rattle.model.specs.Store.{width, size}
 use Rattle.ranges.specs.Sizes.{SideSized}
 use Rattle.ranges.specs.PowerForm.{by-sized}
 use Rattle.subtrees.specs.Preorder.{size-pos, tail, countPlace, HasStrip, Begins}
 use Rattle.subtrees.specs.Subtrees.{stripBy, shortBy, subtree}
-use Rattle.subtrees.specs.Halving.{Halvable, at-short, few, n-in, left-half, right-half, Forked, forked}
-use Rattle.strips.specs.Structs.{form, side, stripOf}
-use Rattle.checking.specs.Answers.{Unless, Told, unless-true, unless-false, refused, granted}
+use Rattle.subtrees.specs.Halving.{at-short, few, n-in, left-half, right-half, Forked, forked}
+use Rattle.powers.specs.Structs.{form}
+use Rattle.strips.specs.Structs.{stripOf}
+use Rattle.checking.specs.Answers.{Told, unless-true, unless-false, refused, granted}
 use Rattle.checking.proofs.Found.{no-strip, no-count, yes-leaf, no-left, no-right, yes-node}
 use Prim.Native.Nat.{ℕ, _<_}
 use borrow.Fn.Kinds.{In}

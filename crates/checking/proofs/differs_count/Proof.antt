@@ -1,3 +1,4 @@
+-- A count is small, and so is itself as a signed number. Assumes nothing.
 use mir.Syntax.{w64}
 use mir.Facts.{toZ-pos}
 use native.Mathlib.Omega.{arith}

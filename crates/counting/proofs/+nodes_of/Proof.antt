@@ -1,14 +1,13 @@
 -- The measure is the halvings that are left. The subtree by the tests that the code made is `at-short`, `at-long` or `at-node`. Assumes nothing.
-use mathlib.Core.Path.{_≡_, refl, sym, ap, _∙_}
-use mathlib.Core.Bool.{true, false}
-use Prim.Native.Nat.{_+_, _*_, _-_, _≤_}
+use mathlib.Core.Path.{_≡_, sym, _∙_}
+use Prim.Native.Nat.{_+_, _*_, _-_}
 use native.Mathlib.Omega.{arith}
 use mir.Facts.{toZ-ofZ}
-use Rattle.model.specs.Trees.{Tree, leaf, long, node}
-use Rattle.subtrees.specs.Subtrees.{stripBy, shortBy, subtree}
+use Rattle.model.specs.Trees.{Tree, node}
+use Rattle.subtrees.specs.Subtrees.{stripBy, subtree}
 use Rattle.subtrees.specs.Halving.{at-short, at-long, at-node, few, n-in, left-half, right-half}
 use Rattle.subtrees.specs.Counts.{count, kept, count-left, count-right, count-both}
-use Rattle.strips.specs.Structs.{form}
+use Rattle.powers.specs.Structs.{form}
 use Prim.Native.Nat.{ℕ, _<_}
 use borrow.Fn.Kinds.{In}
 use borrow.Fn.PlainCycle.{Measures, is, falls, and}

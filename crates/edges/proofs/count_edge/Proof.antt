@@ -1,9 +1,9 @@
 -- The walk that is counted is the model's tree. Assumes nothing.
-use mathlib.Core.Path.{_≡_, ap, _∙_}
+use mathlib.Core.Path.{ap, _∙_}
 use Rattle.integers.specs.Signed.{back}
 use Rattle.subtrees.specs.Halving.{whole-edge}
 use Rattle.subtrees.specs.Counts.{count}
-use Rattle.strips.specs.Structs.{form}
+use Rattle.powers.specs.Structs.{form}
 use Rattle.edges.proofs.Whole.{whole-is, x-form, y-form, limit}
 use borrow.Author.Needs.{needs}
 use Rattle.edges.proofs.count_edge.Statement.{statement}

@@ -1,19 +1,17 @@
 -- The measure is the edges that are left. Assumes nothing.
-use mathlib.Core.Path.{_≡_, refl, sym, ap, _∙_, subst}
-use mathlib.Core.Bool.{Bool, true, false}
-use mathlib.Core.List.{List, _∷_, _++_}
-use Prim.Native.Nat.{_+_, _*_, _-_, _≤_}
+use mathlib.Core.Path.{_≡_, sym, _∙_}
+use mathlib.Core.Bool.{false}
+use mathlib.Core.List.{List}
+use Prim.Native.Nat.{_+_, _-_}
 use native.Mathlib.Omega.{arith}
-use borrow.Author.Needs.{needs}
-use lib.IntN.{ℤ}
-use lib.ListN.{length, drop, length-drop}
 use mir.Facts.{toZ-ofZ}
 use Rattle.model.specs.Jobs.{edgeAt}
 use Rattle.model.specs.Trees.{Tree, tree, isLong}
-use Rattle.model.specs.Store.{width, size, sizes, flatten}
+use Rattle.model.specs.Store.{size}
 use Rattle.subtrees.specs.Counts.{count, kept}
+use Rattle.subtrees.specs.Sizes.{few-nodes}
 use Rattle.forests.specs.Walk.{treesFrom, end-is, more-is}
-use Rattle.forests.proofs.Steps.{few-nodes, count-stop, count-go}
+use Rattle.forests.proofs.Steps.{count-stop, count-go}
 use Prim.Native.Nat.{ℕ, _<_}
 use borrow.Fn.Kinds.{In}
 use borrow.Fn.PlainCycle.{Measures, is, falls, and}

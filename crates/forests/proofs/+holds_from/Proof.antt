@@ -1,20 +1,18 @@
 -- The measure is the edges that are left. The first edge whose tree differs answers. Assumes nothing.
-use mathlib.Core.Path.{_≡_, refl, sym, ap, _∙_, subst}
-use mathlib.Core.Bool.{Bool, true, false}
-use mathlib.Core.List.{List, _∷_, _++_}
-use Prim.Native.Nat.{_+_, _*_, _-_, _≤_}
+use mathlib.Core.Path.{_≡_}
+use mathlib.Core.List.{List}
+use Prim.Native.Nat.{_+_, _*_, _-_}
 use native.Mathlib.Omega.{arith}
-use borrow.Author.Needs.{needs}
-use lib.IntN.{ℤ}
-use lib.ListN.{length, drop, length-drop}
+use lib.ListN.{length, length-drop}
 use mir.Facts.{toZ-ofZ}
 use Rattle.model.specs.Jobs.{edgeAt}
-use Rattle.model.specs.Trees.{Tree, tree, isLong}
-use Rattle.model.specs.Store.{width, size, sizes, flatten}
-use Rattle.subtrees.specs.Preorder.{size-pos, tail, Begins, BeginsAll, all-first}
+use Rattle.model.specs.Trees.{Tree, tree}
+use Rattle.model.specs.Store.{width, size}
+use Rattle.subtrees.specs.Preorder.{size-pos, tail, Begins, all-first}
 use Rattle.checking.specs.Answers.{Told, refused, granted}
+use Rattle.subtrees.specs.Sizes.{few-nodes}
 use Rattle.forests.specs.Walk.{treesFrom, end-is}
-use Rattle.forests.proofs.Steps.{few-nodes, Split, split, says-more}
+use Rattle.forests.proofs.Steps.{Split, split, says-more}
 use Prim.Native.Nat.{ℕ, _<_}
 use borrow.Fn.Kinds.{In}
 use borrow.Fn.PlainCycle.{Measures, is, falls, and}

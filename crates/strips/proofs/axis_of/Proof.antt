@@ -1,18 +1,13 @@
-use mathlib.Core.Path.{_≡_, refl, sym, ap, _∙_}
+-- Nothing wraps, and the quotient is rounded by `rounded`. Assumes nothing.
 use mir.Facts.{toZ-ofZ}
-use lib.IntN.{pos, natAbs}
-use Rattle.integers.specs.Signed.{Made, arg, held, lit, widen, plus, minus, times, back}
+use Rattle.integers.specs.Signed.{Made, held, lit, widen, plus, times, back}
 use Rattle.integers.specs.Signed.{read64}
 use Rattle.strips.proofs.Records.{got}
 use Rattle.ranges.specs.PowerForm as pf
-use Rattle.strips.specs.Structs.{form}
+use Rattle.powers.specs.Structs.{form}
 use borrow.Author.Needs.{needs}
 use Rattle.strips.proofs.axis_of.Statement.{statement}
 use Rattle.strips.proofs.axis_of.Tie as tie
-use Rattle.strips.proofs.axis_of.Reads as reads
-use Rattle.strips.proofs.axis_of.Lts as lts
-use Rattle.arithmetic.proofs.rounded.Reads as rounded-reads
-use Rattle.strips.proofs.a1_of.Reads as a1-of-reads
 
 module _ (c : tie.After-struct-told) where
   a1 : Made (c .before .a1-of .result) (pf.a1 (form (c .before .before .args .c)) (c .before .before .args .n) (c .before .before .args .m)) 226492416000000
@@ -21,30 +16,24 @@ module _ (c : tie.After-struct-told) where
   a3 : Made (c .before .before .args .c .c3) (c .before .before .args .c .c3) 8000000
   a3 = held (c .before .before .args .c .c3) (c .before .before .pre .0 .c3-size) tt
 
--- src/lib.rt:80:9
 a1-of-requires : tie.Need-a1-of-requires
 a1-of-requires c κs = search needs
 
--- src/lib.rt:82:21
 mul-rounded : tie.Need-mul-rounded
 mul-rounded c = (times (lit 16 tt) (a1 c) tt) .fits
 
--- src/lib.rt:82:31
 mul-rounded-2 : tie.Need-mul-rounded-2
 mul-rounded-2 c = (times (lit 12 tt) (a3 c) tt) .fits
 
--- src/lib.rt:82:21
 add-rounded : tie.Need-add-rounded
 add-rounded c = (plus (times (lit 16 tt) (a1 c) tt) (times (lit 12 tt) (a3 c) tt) tt) .fits
 
--- src/lib.rt:82:5
 rounded-requires : tie.Need-rounded-requires
 rounded-requires c κs =
     let s = c .before .before in
     let t = (plus (times (lit 16 tt) (a1 c) tt) (times (lit 12 tt) (a3 c) tt) tt) in
     rw (back t, toZ-ofZ (s .fits .cube)) ((widen 3900000000000000000 t tt) .within, s .pre .3, s .pre .4, s .pre .5)
 
--- src/lib.rt:76:1
 returns : tie.Need-returns
 returns c =
     let s = c .before .before .before in

@@ -1,4 +1,5 @@
-use mathlib.Core.Path.{_≡_, refl, sym, ap, _∙_}
+-- Nothing wraps; the two quotients are small enough for `abs`. Assumes nothing.
+use mathlib.Core.Path.{_≡_, ap, _∙_}
 use mir.Facts.{toZ-ofZ}
 use Prim.Native.Nat.{ℕ, _^_}
 use lib.Dec.{T, ltb}
@@ -6,23 +7,15 @@ use mir.Syntax.{w64}
 use mir.Val.{toZ, ofZ}
 use Rattle.integers.specs.Absolute.{absℤ}
 use Rattle.ranges.specs.Bounds.{abs-size}
-use native.Mathlib.Nat.{le-trans}
-use native.Mathlib.Omega.{arith}
 use lib.IntN.{ℤ, pos, natAbs, _*ℤ_}
 use Rattle.integers.specs.Rounding.{nearest}
-use Rattle.integers.specs.Signed.{Made, arg, held, lit, widen, plus, minus, times, back, called, sized}
-use Rattle.integers.specs.Signed.{read64}
+use Rattle.integers.specs.Signed.{Made, held, lit, widen, plus, times, back, called, sized}
 use Rattle.ranges.specs.PowerForm as pf
-use Rattle.strips.specs.Structs.{form}
+use Rattle.powers.specs.Structs.{form}
 use Rattle.strips.proofs.Records.{got}
 use borrow.Author.Needs.{needs}
 use Rattle.strips.proofs.box_of.Statement.{statement}
 use Rattle.strips.proofs.box_of.Tie as tie
-use Rattle.strips.proofs.box_of.Reads as reads
-use Rattle.strips.proofs.box_of.Lts as lts
-use Rattle.arithmetic.proofs.abs.Reads as abs-reads
-use Rattle.arithmetic.proofs.rounded.Reads as rounded-reads
-use Rattle.strips.proofs.a2_of.Reads as a2-of-reads
 
 a2 : (c : tie.After-struct-told) → Made (c .before .a2-of .result) (pf.a2 (form (c .before .before .args .c)) (c .before .before .args .n) (c .before .before .args .m)) 73728000000
 a2 c = let s = c .before .before in let e = rw (toZ-ofZ (s .fits .n), toZ-ofZ (s .fits .m)) at (c .before .a2-of .ensures) in got (e .0) (e .1) tt
@@ -54,49 +47,39 @@ other-size : (c : tie.After-abs2) → let s = c .before .before .before .before 
     Made (c .abs2 .result) (absℤ (pf.thirdBy (form (s .args .c)) (natAbs (s .args .cube)))) 1000000000
 other-size c = size (third (c .before .before)) (c .abs2 .ensures) tt
 
--- src/lib.rt:89:9
 a2-of-requires : tie.Need-a2-of-requires
 a2-of-requires c κs = search needs
 
--- src/lib.rt:91:34
 mul-rounded : tie.Need-mul-rounded
 mul-rounded c = (times (lit 8 tt) (a2 c) tt) .fits
 
--- src/lib.rt:91:9
 rounded-requires : tie.Need-rounded-requires
 rounded-requires c κs =
     let s = c .before .before in
     let t = times (lit 8 tt) (a2 c) tt in
     rw (back t, toZ-ofZ (s .fits .cube)) ((widen 3900000000000000000 t tt) .within, s .pre .3, s .pre .4, s .pre .5)
 
--- src/lib.rt:92:33
 mul-rounded-2 : tie.Need-mul-rounded-2
 mul-rounded-2 c = (times (lit 4 tt) (a3 (c .before)) tt) .fits
 
--- src/lib.rt:92:9
 rounded-requires-2 : tie.Need-rounded-requires-2
 rounded-requires-2 c κs =
     let s = c .before .before .before in
     let t = times (lit 4 tt) (a3 (c .before)) tt in
     rw (back t, toZ-ofZ (s .fits .cube)) ((widen 3900000000000000000 t tt) .within, s .pre .3, s .pre .4, s .pre .5)
 
--- src/lib.rt:93:5
 abs-requires : tie.Need-abs-requires
 abs-requires c κs = sized 4294967296 (second (c .before)) tt
 
--- src/lib.rt:93:27
 abs-requires-2 : tie.Need-abs-requires-2
 abs-requires-2 c κs = sized 4294967296 (third (c .before)) tt
 
--- src/lib.rt:93:5
 add-result : tie.Need-add-result
 add-result c = (plus (first-size (c .before)) (other-size c) tt) .fits
 
--- src/lib.rt:93:5
 add-result-2 : tie.Need-add-result-2
 add-result-2 c = (plus (plus (first-size (c .before)) (other-size c) tt) (lit 2 tt) tt) .fits
 
--- src/lib.rt:85:1
 returns : tie.Need-returns
 returns c = back (plus (plus (first-size (c .before)) (other-size c) tt) (lit 2 tt) tt)
 

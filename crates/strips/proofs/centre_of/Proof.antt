@@ -1,19 +1,13 @@
-use mathlib.Core.Path.{_≡_, refl, sym, ap, _∙_}
+-- Nothing wraps, and the quotient is rounded by `rounded`. Assumes nothing.
 use mir.Facts.{toZ-ofZ}
-use lib.IntN.{pos, natAbs}
-use Rattle.integers.specs.Signed.{Made, arg, held, lit, widen, plus, minus, times, back}
+use Rattle.integers.specs.Signed.{Made, lit, widen, plus, times, back}
 use Rattle.integers.specs.Signed.{read64}
 use Rattle.strips.proofs.Records.{got}
 use Rattle.ranges.specs.PowerForm as pf
-use Rattle.strips.specs.Structs.{form}
+use Rattle.powers.specs.Structs.{form}
 use borrow.Author.Needs.{needs}
 use Rattle.strips.proofs.centre_of.Statement.{statement}
 use Rattle.strips.proofs.centre_of.Tie as tie
-use Rattle.strips.proofs.centre_of.Reads as reads
-use Rattle.strips.proofs.centre_of.Lts as lts
-use Rattle.arithmetic.proofs.rounded.Reads as rounded-reads
-use Rattle.strips.proofs.a2_of.Reads as a2-of-reads
-use Rattle.strips.proofs.a0_of.Reads as a0-of-reads
 
 module _ (c : tie.After-a2-of) where
   a0 : Made (c .before .a0-of .result) (pf.a0 (form (c .before .before .args .c)) (c .before .before .args .n) (c .before .before .args .m)) 231928233984000000
@@ -22,34 +16,27 @@ module _ (c : tie.After-a2-of) where
   a2 : Made (c .a2-of .result) (pf.a2 (form (c .before .before .args .c)) (c .before .before .args .n) (c .before .before .args .m)) 73728000000
   a2 = let s = c .before .before in let e = rw (toZ-ofZ (s .fits .n), toZ-ofZ (s .fits .m)) at (c .a2-of .ensures) in got (e .0) (e .1) tt
 
--- src/lib.rt:71:9
 a0-of-requires : tie.Need-a0-of-requires
 a0-of-requires c κs = search needs
 
--- src/lib.rt:72:9
 a2-of-requires : tie.Need-a2-of-requires
 a2-of-requires c κs = search needs
 
--- src/lib.rt:73:21
 mul-rounded : tie.Need-mul-rounded
 mul-rounded c = (times (lit 16 tt) (a0 c) tt) .fits
 
--- src/lib.rt:73:31
 mul-rounded-2 : tie.Need-mul-rounded-2
 mul-rounded-2 c = (times (lit 8 tt) (a2 c) tt) .fits
 
--- src/lib.rt:73:21
 add-rounded : tie.Need-add-rounded
 add-rounded c = (plus (times (lit 16 tt) (a0 c) tt) (times (lit 8 tt) (a2 c) tt) tt) .fits
 
--- src/lib.rt:73:5
 rounded-requires : tie.Need-rounded-requires
 rounded-requires c κs =
     let s = c .before .before in
     let t = (plus (times (lit 16 tt) (a0 c) tt) (times (lit 8 tt) (a2 c) tt) tt) in
     rw (back t, toZ-ofZ (s .fits .cube)) ((widen 3900000000000000000 t tt) .within, s .pre .3, s .pre .4, s .pre .5)
 
--- src/lib.rt:67:1
 returns : tie.Need-returns
 returns c =
     let s = c .before .before .before in

@@ -1,23 +1,16 @@
-use mathlib.Core.Path.{_≡_, refl, sym, ap, _∙_}
-use mir.Facts.{toZ-ofZ}
-use Prim.Native.Nat.{_*_}
+-- N³ is above 0, and each number is one of the calls'. Assumes nothing.
+use mathlib.Core.Path.{_∙_}
 use native.Mathlib.Nat.{le-trans}
 use native.Mathlib.Omega.{arith}
-use lib.IntN.{pos, natAbs, _*ℤ_}
-use Rattle.integers.specs.Rounding.{nearest}
-use Rattle.integers.specs.Signed.{Made, arg, held, lit, widen, plus, minus, times, back}
+use lib.IntN.{pos}
+use Rattle.integers.specs.Signed.{Made, held, times, back}
 use Rattle.integers.specs.Signed.{read64}
-use Rattle.ranges.specs.PowerForm.{FormSized, sideBy, cube-above, second-in, third-in}
-use Rattle.strips.specs.Structs.{form}
+use Rattle.ranges.specs.PowerForm.{sideBy, cube-above, second-in, third-in}
+use Rattle.powers.specs.Structs.{form}
 use Rattle.strips.proofs.Records.{side-eq}
 use borrow.Author.Needs.{needs}
 use Rattle.strips.proofs.extent_of.Statement.{statement}
 use Rattle.strips.proofs.extent_of.Tie as tie
-use Rattle.strips.proofs.extent_of.Reads as reads
-use Rattle.strips.proofs.extent_of.Lts as lts
-use Rattle.strips.proofs.axis_of.Reads as axis-of-reads
-use Rattle.strips.proofs.centre_of.Reads as centre-of-reads
-use Rattle.strips.proofs.box_of.Reads as box-of-reads
 
 module _ (s : tie.Start) where
   n : Made (pos (s .args .n)) (pos (s .args .n)) 2048
@@ -26,41 +19,33 @@ module _ (s : tie.Start) where
   m : Made (pos (s .args .m)) (pos (s .args .m)) 2048
   m = held (pos (s .args .m)) (le-trans (s .pre .3) (s .pre .2)) tt
 
--- src/lib.rt:101:13
 cast-a : tie.Need-cast-a
 cast-a c = search needs
 
--- src/lib.rt:102:13
 cast-b : tie.Need-cast-b
 cast-b c = search needs
 
--- src/lib.rt:103:16
 mul-cube : tie.Need-mul-cube
 mul-cube c = (times (n c) (n c) tt) .fits
 
--- src/lib.rt:103:16
 mul-cube-2 : tie.Need-mul-cube-2
 mul-cube-2 c = (times (times (n c) (n c) tt) (n c) tt) .fits
 
--- src/lib.rt:104:9
 centre-of-requires : tie.Need-centre-of-requires
 centre-of-requires c κs =
     let s = c in
     rw (back (times (times (n s) (n s) tt) (n s) tt), back (n s), back (m s)) (s .pre .0, s .pre .2, (m s) .within, (times (times (n s) (n s) tt) (n s) tt) .within, cube-above (s .args .n) (s .pre .1), tt)
 
--- src/lib.rt:105:9
 axis-of-requires : tie.Need-axis-of-requires
 axis-of-requires c κs =
     let s = c .before in
     rw (back (times (times (n s) (n s) tt) (n s) tt), back (n s), back (m s)) (s .pre .0, s .pre .2, (m s) .within, (times (times (n s) (n s) tt) (n s) tt) .within, cube-above (s .args .n) (s .pre .1), tt)
 
--- src/lib.rt:106:9
 box-of-requires : tie.Need-box-of-requires
 box-of-requires c κs =
     let s = c .before .before in
     rw (back (times (times (n s) (n s) tt) (n s) tt), back (n s), back (m s)) (s .pre .0, s .pre .2, (m s) .within, (times (times (n s) (n s) tt) (n s) tt) .within, cube-above (s .args .n) (s .pre .1), tt, omega (arith, second-in (form (s .args .c)) (s .args .n) (s .args .m) (s .pre .0) (s .pre .1) (s .pre .3)), omega (arith, third-in (form (s .args .c)) (s .args .n) (s .args .m) (s .pre .0) (s .pre .1) (s .pre .3)))
 
--- src/lib.rt:97:1
 returns : tie.Need-returns
 unfolding sideBy
 returns c =

@@ -1,21 +1,16 @@
-use mathlib.Core.Path.{_≡_, refl, sym, ap, _∙_}
+-- By the test of x, and then of y. Assumes nothing.
+use mathlib.Core.Path.{sym}
 use mir.Facts.{toZ-ofZ}
 use borrow.Author.Needs.{needs}
 use Rattle.strips.proofs.is_short.Statement.{statement}
 use Rattle.strips.proofs.is_short.Tie as tie
-use Rattle.strips.proofs.is_short.Reads as reads
-use Rattle.strips.proofs.is_short.Lts as lts
-use Rattle.strips.proofs.fits.Reads as fits-reads
 
--- src/lib.rt:123:8
 fits-requires : tie.Need-fits-requires
 fits-requires c κs = search needs
 
--- src/lib.rt:124:9
 fits-requires-2 : tie.Need-fits-requires-2
 fits-requires-2 c κs = search needs
 
--- src/lib.rt:119:1
 returns : tie.Need-returns
 returns c =
     let s = c .before .before .before in
@@ -23,7 +18,6 @@ returns c =
     let f = rw (toZ-ofZ (s .fits .limit)) at (c .fits3 .ensures) in
     rw (sym e, f)
 
--- src/lib.rt:119:1
 returns-2 : tie.Need-returns-2
 returns-2 c =
     let s = c .before .before in

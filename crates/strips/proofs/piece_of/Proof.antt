@@ -1,23 +1,20 @@
-use mathlib.Core.Path.{_≡_, refl, sym, ap, _∙_, subst}
+-- Both strips are sized, so shortness can be tested. Assumes nothing.
+use mathlib.Core.Path.{sym, _∙_, subst}
 use mir.Facts.{toZ-ofZ}
 use Rattle.ranges.specs.Sizes.{SideSized}
 use Rattle.ranges.specs.PowerForm.{by-sized}
-use Rattle.strips.specs.Structs.{form, short-eq}
+use Rattle.powers.specs.Structs.{form}
+use Rattle.strips.specs.Structs.{short-eq}
 use borrow.Author.Needs.{needs}
 use Rattle.strips.proofs.piece_of.Statement.{statement}
 use Rattle.strips.proofs.piece_of.Tie as tie
-use Rattle.strips.proofs.piece_of.Reads as reads
-use Rattle.strips.proofs.piece_of.Lts as lts
 
--- src/lib.rt:29:9
 extent-of-requires : tie.Need-extent-of-requires
 extent-of-requires c κs = search needs
 
--- src/lib.rt:30:9
 extent-of-requires-2 : tie.Need-extent-of-requires-2
 extent-of-requires-2 c κs = search needs
 
--- src/lib.rt:31:9
 is-short-requires : tie.Need-is-short-requires
 is-short-requires c κs =
     let s = c .before .before in
@@ -26,7 +23,6 @@ is-short-requires c κs =
       subst SideSized (sym (c .extent-of2 .ensures)) (by-sized (form (s .args .cy)) (s .args .n) (s .args .m) (p .1) (p .2) (p .4)),
     )
 
--- src/lib.rt:25:1
 returns : tie.Need-returns
 returns c =
     let s = c .before .before .before in

@@ -1,11 +1,7 @@
-use mathlib.Core.Path.{_≡_, refl, sym, ap, _∙_}
-use mir.Facts.{toZ-ofZ}
-use Rattle.integers.specs.Signed.{Made, arg, held, lit, widen, plus, minus, times, back}
-use Rattle.integers.specs.Signed.{read64}
-use Rattle.strips.proofs.a1_of.Statement.{statement}
-use Rattle.strips.proofs.a1_of.Tie as tie
-use Rattle.strips.proofs.a1_of.Reads as reads
-use Rattle.strips.proofs.a1_of.Lts as lts
+-- Nothing wraps, by the sizes of the coefficients and of N. Assumes nothing.
+use Rattle.integers.specs.Signed.{Made, arg, held, lit, plus, times, back}
+use Rattle.powers.proofs.a1_of.Statement.{statement}
+use Rattle.powers.proofs.a1_of.Tie as tie
 
 module _ (s : tie.Start) where
   c1 : Made (s .args .c .c1) (s .args .c .c1) 6000000
@@ -23,47 +19,36 @@ module _ (s : tie.Start) where
   m : Made (s .args .m) (s .args .m) 2048
   m = arg (s .pre .2) (s .fits .m)
 
--- src/lib.rt:55:11
 mul-result : tie.Need-mul-result
 mul-result c = let s = c .before .before .before in (times (n s) (n s) tt) .fits
 
--- src/lib.rt:55:5
 mul-result-2 : tie.Need-mul-result-2
 mul-result-2 c = let s = c .before .before .before in (times (c1 s) (times (n s) (n s) tt) tt) .fits
 
--- src/lib.rt:55:20
 mul-result-3 : tie.Need-mul-result-3
 mul-result-3 c = let s = c .before .before .before in (times (lit 2 tt) (c2 s) tt) .fits
 
--- src/lib.rt:55:20
 mul-result-4 : tie.Need-mul-result-4
 mul-result-4 c = let s = c .before .before .before in (times (times (lit 2 tt) (c2 s) tt) (n s) tt) .fits
 
--- src/lib.rt:55:20
 mul-result-5 : tie.Need-mul-result-5
 mul-result-5 c = let s = c .before .before .before in (times (times (times (lit 2 tt) (c2 s) tt) (n s) tt) (m s) tt) .fits
 
--- src/lib.rt:55:5
 add-result : tie.Need-add-result
 add-result c = let s = c .before .before .before in (plus (times (c1 s) (times (n s) (n s) tt) tt) (times (times (times (lit 2 tt) (c2 s) tt) (n s) tt) (m s) tt) tt) .fits
 
--- src/lib.rt:55:37
 mul-result-6 : tie.Need-mul-result-6
 mul-result-6 c = let s = c .before .before .before in (times (lit 3 tt) (c3 s) tt) .fits
 
--- src/lib.rt:55:47
 mul-result-7 : tie.Need-mul-result-7
 mul-result-7 c = let s = c .before .before .before in (times (m s) (m s) tt) .fits
 
--- src/lib.rt:55:37
 mul-result-8 : tie.Need-mul-result-8
 mul-result-8 c = let s = c .before .before .before in (times (times (lit 3 tt) (c3 s) tt) (times (m s) (m s) tt) tt) .fits
 
--- src/lib.rt:55:5
 add-result-2 : tie.Need-add-result-2
 add-result-2 c = let s = c .before .before .before in (plus (plus (times (c1 s) (times (n s) (n s) tt) tt) (times (times (times (lit 2 tt) (c2 s) tt) (n s) tt) (m s) tt) tt) (times (times (lit 3 tt) (c3 s) tt) (times (m s) (m s) tt) tt) tt) .fits
 
--- src/lib.rt:48:1
 returns : tie.Need-returns
 returns c =
     let s = c .before .before .before in

@@ -1,12 +1,8 @@
-use Rattle.strips.proofs.Records.{form-eq}
-use mathlib.Core.Path.{_≡_, refl, sym, ap, _∙_}
-use mir.Facts.{toZ-ofZ}
-use Rattle.integers.specs.Signed.{Made, arg, held, lit, widen, plus, minus, times, back}
-use Rattle.integers.specs.Signed.{read64}
-use Rattle.strips.proofs.power_form.Statement.{statement}
-use Rattle.strips.proofs.power_form.Tie as tie
-use Rattle.strips.proofs.power_form.Reads as reads
-use Rattle.strips.proofs.power_form.Lts as lts
+-- Nothing wraps; each coefficient is the model's. Assumes nothing.
+use Rattle.powers.proofs.Records.{form-eq}
+use Rattle.integers.specs.Signed.{Made, arg, lit, plus, minus, times, back}
+use Rattle.powers.proofs.power_form.Statement.{statement}
+use Rattle.powers.proofs.power_form.Tie as tie
 
 module _ (s : tie.Start) where
   b0 : Made (s .args .b0) (s .args .b0) 1000000
@@ -21,51 +17,39 @@ module _ (s : tie.Start) where
   b3 : Made (s .args .b3) (s .args .b3) 1000000
   b3 = arg (s .pre .b3-size) (s .fits .b3)
 
--- src/lib.rt:30:19
 sub-c1 : tie.Need-sub-c1
 sub-c1 c = let s = c in (minus (b1 s) (b0 s) tt) .fits
 
--- src/lib.rt:30:14
 mul-c1 : tie.Need-mul-c1
 mul-c1 c = let s = c in (times (lit 3 tt) (minus (b1 s) (b0 s) tt) tt) .fits
 
--- src/lib.rt:31:24
 mul-c2 : tie.Need-mul-c2
 mul-c2 c = let s = c in (times (lit 2 tt) (b1 s) tt) .fits
 
--- src/lib.rt:31:19
 sub-c2 : tie.Need-sub-c2
 sub-c2 c = let s = c in (minus (b0 s) (times (lit 2 tt) (b1 s) tt) tt) .fits
 
--- src/lib.rt:31:19
 add-c2 : tie.Need-add-c2
 add-c2 c = let s = c in (plus (minus (b0 s) (times (lit 2 tt) (b1 s) tt) tt) (b2 s) tt) .fits
 
--- src/lib.rt:31:14
 mul-c2-2 : tie.Need-mul-c2-2
 mul-c2-2 c = let s = c in (times (lit 3 tt) (plus (minus (b0 s) (times (lit 2 tt) (b1 s) tt) tt) (b2 s) tt) tt) .fits
 
--- src/lib.rt:32:19
 mul-c3 : tie.Need-mul-c3
 mul-c3 c = let s = c in (times (lit 3 tt) (b2 s) tt) .fits
 
--- src/lib.rt:32:14
 sub-c3 : tie.Need-sub-c3
 sub-c3 c = let s = c in (minus (b3 s) (times (lit 3 tt) (b2 s) tt) tt) .fits
 
--- src/lib.rt:32:28
 mul-c3-2 : tie.Need-mul-c3-2
 mul-c3-2 c = let s = c in (times (lit 3 tt) (b1 s) tt) .fits
 
--- src/lib.rt:32:14
 add-c3 : tie.Need-add-c3
 add-c3 c = let s = c in (plus (minus (b3 s) (times (lit 3 tt) (b2 s) tt) tt) (times (lit 3 tt) (b1 s) tt) tt) .fits
 
--- src/lib.rt:32:14
 sub-c3-2 : tie.Need-sub-c3-2
 sub-c3-2 c = let s = c in (minus (plus (minus (b3 s) (times (lit 3 tt) (b2 s) tt) tt) (times (lit 3 tt) (b1 s) tt) tt) (b0 s) tt) .fits
 
--- src/lib.rt:26:1
 returns : tie.Need-returns
 returns c = form-eq (back (b0 c))
     (back (times (lit 3 tt) (minus (b1 c) (b0 c) tt) tt))

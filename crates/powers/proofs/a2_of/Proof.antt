@@ -1,11 +1,7 @@
-use mathlib.Core.Path.{_≡_, refl, sym, ap, _∙_}
-use mir.Facts.{toZ-ofZ}
-use Rattle.integers.specs.Signed.{Made, arg, held, lit, widen, plus, minus, times, back}
-use Rattle.integers.specs.Signed.{read64}
-use Rattle.strips.proofs.a2_of.Statement.{statement}
-use Rattle.strips.proofs.a2_of.Tie as tie
-use Rattle.strips.proofs.a2_of.Reads as reads
-use Rattle.strips.proofs.a2_of.Lts as lts
+-- Nothing wraps, by the sizes of the coefficients and of N. Assumes nothing.
+use Rattle.integers.specs.Signed.{Made, arg, held, lit, plus, times, back}
+use Rattle.powers.proofs.a2_of.Statement.{statement}
+use Rattle.powers.proofs.a2_of.Tie as tie
 
 module _ (s : tie.Start) where
   c2 : Made (s .args .c .c2) (s .args .c .c2) 12000000
@@ -20,23 +16,18 @@ module _ (s : tie.Start) where
   m : Made (s .args .m) (s .args .m) 2048
   m = arg (s .pre .2) (s .fits .m)
 
--- src/lib.rt:64:5
 mul-result : tie.Need-mul-result
 mul-result c = let s = c .before .before in (times (c2 s) (n s) tt) .fits
 
--- src/lib.rt:64:14
 mul-result-2 : tie.Need-mul-result-2
 mul-result-2 c = let s = c .before .before in (times (lit 3 tt) (c3 s) tt) .fits
 
--- src/lib.rt:64:14
 mul-result-3 : tie.Need-mul-result-3
 mul-result-3 c = let s = c .before .before in (times (times (lit 3 tt) (c3 s) tt) (m s) tt) .fits
 
--- src/lib.rt:64:5
 add-result : tie.Need-add-result
 add-result c = let s = c .before .before in (plus (times (c2 s) (n s) tt) (times (times (lit 3 tt) (c3 s) tt) (m s) tt) tt) .fits
 
--- src/lib.rt:58:1
 returns : tie.Need-returns
 returns c =
     let s = c .before .before in

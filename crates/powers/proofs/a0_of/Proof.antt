@@ -1,11 +1,7 @@
-use mathlib.Core.Path.{_≡_, refl, sym, ap, _∙_}
-use mir.Facts.{toZ-ofZ}
-use Rattle.integers.specs.Signed.{Made, arg, held, lit, widen, plus, minus, times, back}
-use Rattle.integers.specs.Signed.{read64}
-use Rattle.strips.proofs.a0_of.Statement.{statement}
-use Rattle.strips.proofs.a0_of.Tie as tie
-use Rattle.strips.proofs.a0_of.Reads as reads
-use Rattle.strips.proofs.a0_of.Lts as lts
+-- Nothing wraps, by the sizes of the coefficients and of N. Assumes nothing.
+use Rattle.integers.specs.Signed.{Made, arg, held, plus, times, back}
+use Rattle.powers.proofs.a0_of.Statement.{statement}
+use Rattle.powers.proofs.a0_of.Tie as tie
 
 module _ (s : tie.Start) where
   c0 : Made (s .args .c .c0) (s .args .c .c0) 1000000
@@ -26,67 +22,51 @@ module _ (s : tie.Start) where
   m : Made (s .args .m) (s .args .m) 2048
   m = arg (s .pre .2) (s .fits .m)
 
--- src/lib.rt:45:11
 mul-result : tie.Need-mul-result
 mul-result c = let s = c .before .before .before .before in (times (n s) (n s) tt) .fits
 
--- src/lib.rt:45:11
 mul-result-2 : tie.Need-mul-result-2
 mul-result-2 c = let s = c .before .before .before .before in (times (times (n s) (n s) tt) (n s) tt) .fits
 
--- src/lib.rt:45:5
 mul-result-3 : tie.Need-mul-result-3
 mul-result-3 c = let s = c .before .before .before .before in (times (c0 s) (times (times (n s) (n s) tt) (n s) tt) tt) .fits
 
--- src/lib.rt:45:30
 mul-result-4 : tie.Need-mul-result-4
 mul-result-4 c = let s = c .before .before .before .before in (times (n s) (n s) tt) .fits
 
--- src/lib.rt:45:24
 mul-result-5 : tie.Need-mul-result-5
 mul-result-5 c = let s = c .before .before .before .before in (times (c1 s) (times (n s) (n s) tt) tt) .fits
 
--- src/lib.rt:45:24
 mul-result-6 : tie.Need-mul-result-6
 mul-result-6 c = let s = c .before .before .before .before in (times (times (c1 s) (times (n s) (n s) tt) tt) (m s) tt) .fits
 
--- src/lib.rt:45:5
 add-result : tie.Need-add-result
 add-result c = let s = c .before .before .before .before in (plus (times (c0 s) (times (times (n s) (n s) tt) (n s) tt) tt) (times (times (c1 s) (times (n s) (n s) tt) tt) (m s) tt) tt) .fits
 
--- src/lib.rt:45:43
 mul-result-7 : tie.Need-mul-result-7
 mul-result-7 c = let s = c .before .before .before .before in (times (c2 s) (n s) tt) .fits
 
--- src/lib.rt:45:53
 mul-result-8 : tie.Need-mul-result-8
 mul-result-8 c = let s = c .before .before .before .before in (times (m s) (m s) tt) .fits
 
--- src/lib.rt:45:43
 mul-result-9 : tie.Need-mul-result-9
 mul-result-9 c = let s = c .before .before .before .before in (times (times (c2 s) (n s) tt) (times (m s) (m s) tt) tt) .fits
 
--- src/lib.rt:45:5
 add-result-2 : tie.Need-add-result-2
 add-result-2 c = let s = c .before .before .before .before in (plus (plus (times (c0 s) (times (times (n s) (n s) tt) (n s) tt) tt) (times (times (c1 s) (times (n s) (n s) tt) tt) (m s) tt) tt) (times (times (c2 s) (n s) tt) (times (m s) (m s) tt) tt) tt) .fits
 
--- src/lib.rt:45:68
 mul-result-10 : tie.Need-mul-result-10
 mul-result-10 c = let s = c .before .before .before .before in (times (m s) (m s) tt) .fits
 
--- src/lib.rt:45:68
 mul-result-11 : tie.Need-mul-result-11
 mul-result-11 c = let s = c .before .before .before .before in (times (times (m s) (m s) tt) (m s) tt) .fits
 
--- src/lib.rt:45:62
 mul-result-12 : tie.Need-mul-result-12
 mul-result-12 c = let s = c .before .before .before .before in (times (c3 s) (times (times (m s) (m s) tt) (m s) tt) tt) .fits
 
--- src/lib.rt:45:5
 add-result-3 : tie.Need-add-result-3
 add-result-3 c = let s = c .before .before .before .before in (plus (plus (plus (times (c0 s) (times (times (n s) (n s) tt) (n s) tt) tt) (times (times (c1 s) (times (n s) (n s) tt) tt) (m s) tt) tt) (times (times (c2 s) (n s) tt) (times (m s) (m s) tt) tt) tt) (times (c3 s) (times (times (m s) (m s) tt) (m s) tt) tt) tt) .fits
 
--- src/lib.rt:37:1
 returns : tie.Need-returns
 returns c =
     let s = c .before .before .before .before in

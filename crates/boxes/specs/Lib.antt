@@ -1,0 +1,2 @@
+-- What a point's ranges are.
+pub mod Ranges

@@ -1,0 +1,79 @@
+-- Laws of the least value over a list of strips: of two lists together, and that some strip attains it. Assumes nothing.
+use mathlib.Core.Path.{_≡_, refl, sym, ap, _∙_, subst}
+use mathlib.Core.Bool.{Bool, true, false, cond, not}
+use mathlib.Core.List.{List, [], _∷_, _++_}
+use mathlib.Core.Logic.{inl, inr}
+use Prim.Native.Nat.{ℕ, zero, suc, _+_, _≤_, _<_}
+use native.Mathlib.Omega.{arith}
+use lib.Dec.{T}
+use lib.IntN.{ℤ}
+use lib.ListN.{length, length-append}
+use lib.Signed.{ltZ, ltZ-yes, ltZ-no, clashℤ}
+use Rattle.integers.specs.Order.{_≼_, _≺_}
+use Rattle.integers.specs.Inequalities.{≼-trans, ≺-≼-trans, weak}
+use Rattle.model.specs.Strips.{Strip}
+use Rattle.model.specs.Trees.{Tree, leaf, long, node}
+use Rattle.model.specs.Distance.{leaves, leavesAll, leavesAt, lesser, least, Some}
+
+-- ---- the lesser of two
+is-true : (b : Bool) → T b → b ≡ true
+is-true true t = refl
+is-true false t = absurd t
+
+less : (a b : ℤ) → ltZ a b ≡ true → a ≺ b
+less a b e = ltZ-yes (subst T (sym e) tt)
+
+not-less : (a b : ℤ) → ltZ a b ≡ false → b ≼ a
+not-less a b e = ltZ-no (subst (λ (t : Bool). T (not t)) (sym e) tt)
+
+is-false : (a b : ℤ) → b ≼ a → (t : Bool) → ltZ a b ≡ t → t ≡ false
+is-false a b h true e = clashℤ (less a b e) h
+is-false a b h false e = refl
+
+pub lesser-assoc : (a b c : ℤ) → lesser a (lesser b c) ≡ lesser (lesser a b) c
+lesser-assoc a b c = go (ltZ c b) (ltZ b a) refl refl
+  where
+    go : (p q : Bool) → ltZ c b ≡ p → ltZ b a ≡ q → lesser a (lesser b c) ≡ lesser (lesser a b) c
+    go true true e f = rw (e, f, e, is-true (ltZ c a) (≺-≼-trans (less c b e) (weak (less b a f)) .lt))
+    go true false e f = rw (e, f)
+    go false true e f = rw (e, f, e)
+    go false false e f = rw (e, f, is-false c a (≼-trans (not-less b a f) (not-less c b e)) (ltZ c a) refl)
+
+-- ---- least values
+module _ (f : Strip → ℤ) where
+  pub least-append : (a b : List Strip) → 1 ≤ length a → 1 ≤ length b → least f (a ++ b) ≡ lesser (least f a) (least f b)
+  unfolding least
+  least-append [] b h k = absurd (omega arith)
+  least-append (s ∷ a) [] h k = absurd (omega arith)
+  least-append (s ∷ []) (t ∷ b) h k = refl
+  least-append (s ∷ u ∷ a) (t ∷ b) h k =
+      ap (lesser (f s)) (least-append (u ∷ a) (t ∷ b) (omega arith) k) ∙ lesser-assoc (f s) (least f (u ∷ a)) (least f (t ∷ b))
+
+  -- some strip attains it
+  pub attained : (l : List Strip) → 1 ≤ length l → Some (λ s. f s ≡ least f l) l
+  unfolding least
+  attained [] h = absurd (omega arith)
+  attained (s ∷ []) h = inl refl
+  attained (s ∷ u ∷ l) h = go (ltZ (least f (u ∷ l)) (f s)) (attained (u ∷ l) (omega arith))
+    where
+      go : (p : Bool) → Some (λ t. f t ≡ least f (u ∷ l)) (u ∷ l) → Some (λ t. f t ≡ cond p (least f (u ∷ l)) (f s)) (s ∷ u ∷ l)
+      go true w = inr w
+      go false w = inl refl
+
+-- ---- every tree has a leaf
+pub leaf-there : (t : Tree) → 1 ≤ length (leaves t)
+unfolding leaves
+leaf-there (leaf s) = omega arith
+leaf-there (long s) = omega arith
+leaf-there (node s l r) = omega (arith, length-append (leaves l) (leaves r), leaf-there l)
+
+pub leaves-there : (t : Tree) (us : List Tree) → 1 ≤ length (leavesAll (t ∷ us))
+unfolding leavesAll
+leaves-there t us = omega (arith, length-append (leaves t) (leavesAll us), leaf-there t)
+
+-- an edge of which some leaf has a property is there
+pub some-below : (P : Strip → Type 0) (ts : List Tree) (e : ℕ) → Some P (leavesAt ts e) → e < length ts
+unfolding leavesAt
+some-below P [] e w = absurd w
+some-below P (t ∷ ts) zero w = omega arith
+some-below P (t ∷ ts) (suc e) w = omega (arith, some-below P ts e w)

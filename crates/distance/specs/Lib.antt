@@ -1,0 +1,3 @@
+-- The least value over leaves, and what the lookup of a point answers.
+pub mod Least
+pub mod Answers

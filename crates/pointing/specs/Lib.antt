@@ -1,0 +1,2 @@
+-- The checks of a point's entry.
+pub mod Checks

@@ -1,0 +1,2 @@
+-- What the code's struct stands for.
+pub mod Structs
