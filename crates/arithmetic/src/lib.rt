@@ -21,7 +21,7 @@ pub const LEFT_COUNT: usize = WIDTH + COUNT;
 // ---- numbers
 
 pub fn abs(x: i64) -> i64
-    requires { ⌜ natAbs x ≤ 4294967296 ⌝ }
+    requires { ⌜ natAbs x ≤ 4000000000000000000 ⌝ }
     ensures absolute { λ r. ⌜ r ≡ absℤ x ⌝ }
 {
     if x < 0 { 0 - x } else { x }

@@ -2,11 +2,12 @@
 // one permitted state of the memory lent, those that the definitions of `model` give. Document 01, "What the promises must say".
 use model::Job;
 use model::Map;
+use model::Nearest;
 use model::Read;
 use model::Written;
 ghost use mathlib.Core.Path.{_≡_};
 ghost use Rattle.model.specs.Entries as entries;
-ghost use Rattle.model.specs.Promises.{MapHolds};
+ghost use Rattle.model.specs.Promises.{MapHolds, Bounds, wholePoint};
 
 // Reads a job sheet: the job, or the refusal 1, 2, 3 or 4 and a job of zeros.
 pub fn read(sheet: &[u8]) -> Read
@@ -32,4 +33,13 @@ pub fn map(job: Job, store: &mut [i32], cells: &mut [u8]) -> Map
     ensures demand3 { λ r. ⌜ (r .refusal ≡ 0 → MapHolds job (now (cells .exit))) ⌝ }
 {
     mapping::map(job, store, cells)
+}
+
+// Bounds the squared distance of the point (x, y) from a job's outline, in fine units, given a store that begins with the job's trees; or the
+// refusal 2, 3, 4, 5, 6 or 8 and zeros. The edge is one of those that attain the upper bound; of the bounds of an accepted call see `Bounds`.
+pub fn point(job: Job, x: i32, y: i32, store: &[i32]) -> Nearest
+    ensures answer { λ r. ⌜ entries.IsNearest job x y (now (store .entry)) r ⌝ }
+    ensures bounds { λ r. ⌜ (r .refusal ≡ 0 → Bounds job (wholePoint x y) (r .lo) (r .hi)) ⌝ }
+{
+    pointing::point(job, x, y, store)
 }

@@ -15,7 +15,7 @@ use mir.Facts.{toZ-ofZ, fits-natAbs}
 use Rattle.integers.specs.Signed.{read32, read64}
 use Rattle.model.specs.declared.Job.{Job}
 use Rattle.model.specs.declared.Map.{Map}
-use Rattle.model.specs.Jobs.{between, judge, plateLog, cellLog, edgeAt, edgesFrom}
+use Rattle.model.specs.Jobs.{between, judge, plateLog, cellLog, edgesFrom}
 use Rattle.model.specs.Trees.{Tree, trees, anyLong}
 use Rattle.model.specs.Store.{size, sizes, flatten, flattenAll, forest, nodesOf, storeOf}
 use Rattle.model.specs.Plates.{columns, cellsOf, mapOf}
@@ -23,10 +23,10 @@ use Rattle.model.specs.Entries.{over, mapRefusal, map, mapStore, mapCells}
 use Rattle.ranges.specs.Legal.{both, le-of, legal}
 use Rattle.ranges.specs.Jobs.{Limits, GrainSized, JobSized, judge-sized, forest-sized}
 use Rattle.subtrees.specs.Preorder.{length-all}
-use Rattle.forests.proofs.Steps.{few-nodes}
+use Rattle.subtrees.specs.Sizes.{forest-is, few-trees}
 use Rattle.drawing.specs.Ready.{NumbersSized, MapReady, AnyReady}
 use Rattle.drawing.proofs.Maps.{job-numbers}
-use Rattle.mapping.specs.Checks.{Passed, Refuses, forest-is, map-refused, map-long, map-store, map-space, map-passed, none-long, some-short}
+use Rattle.mapping.specs.Checks.{Passed, Refuses, map-refused, map-long, map-store, map-space, map-passed, none-long, some-short}
 use Rattle.mapping.specs.Placed.{Places}
 use Rattle.mapping.specs.declared.Placing.{Placing}
 use Rattle.mapping.specs.declared.Checked.{Checked}
@@ -118,11 +118,6 @@ module _ (j : Job) (k : ℕ) (q : k ≡ judge j) (z : k ≡ 0) (g : mag (j .grai
   places-ready = let s = judge-sized j (sym q ∙ z) in (s .places-in, s .few-edges, rw (read32 (j .grain) g) (s .grain-in-range))
 
 -- ---- few nodes
-sizes-few : (T : ℤ) (vs : List ℤ) (k e : ℕ) → sizes (trees T (edgesFrom vs k e)) ≤ 2048 * k
-unfolding edgesFrom
-sizes-few T vs zero e = omega arith
-sizes-few T vs (suc k) e = omega (arith, few-nodes T (edgeAt vs e), sizes-few T vs k (e + 1))
-
 none-or : (b : Bool) (n k : ℕ) → k ≡ cond b 0 n → k ≤ n
 none-or true n k e = omega arith
 none-or false n k e = omega arith
@@ -131,7 +126,7 @@ pub numbers-fit : (j : Job) (k : ℕ) → k ≡ judge j → k ≡ 0 → mag (j .
 numbers-fit j k q z g n b =
     let ok = sym q ∙ z in
     let e : n ≡ countedBy j (j .grain) = b ∙ ap (countedBy j) (read32 (j .grain) g) in
-    record { fits = omega (arith, none-or (anyLong (trees (j .grain) (edgesFrom (j .places) (j .count) 0))) (sizes (trees (j .grain) (edgesFrom (j .places) (j .count) 0))) n e, sizes-few (j .grain) (j .places) (j .count) 0, legal j ok .few) }
+    record { fits = omega (arith, none-or (anyLong (trees (j .grain) (edgesFrom (j .places) (j .count) 0))) (sizes (trees (j .grain) (edgesFrom (j .places) (j .count) 0))) n e, few-trees (j .grain) (j .places) (j .count) 0, legal j ok .few) }
 
 -- ---- the trees and the map
 module _ (j : Job) (numbers room nodes : ℕ) (h : Passed j numbers room nodes) where

@@ -1,8 +1,8 @@
 -- The checks of the map entry, one after the other: what each that fails gives, and what is known where all pass. Assumes nothing.
 use mathlib.Core.Path.{_≡_, refl, sym, ap, _∙_}
 use mathlib.Core.Bool.{Bool, true, false, cond}
-use mathlib.Core.List.{List, [], _∷_}
-use Prim.Native.Nat.{ℕ, zero, suc, _+_, _*_, _≤_, _<_}
+use mathlib.Core.List.{List}
+use Prim.Native.Nat.{ℕ, zero, suc, _*_, _≤_, _<_}
 use native.Mathlib.Omega.{arith}
 use lib.IntN.{ℤ}
 use lib.ListN.{length}
@@ -11,13 +11,13 @@ use Rattle.model.specs.declared.Job.{Job}
 use Rattle.model.specs.declared.Map.{Map}
 use Rattle.model.specs.Refusals as refused
 use Rattle.model.specs.Refusals.{check, accepted}
-use Rattle.model.specs.Jobs.{counted, ranged, celled, judge, edgesFrom, outline}
-use Rattle.model.specs.Trees.{Tree, trees, anyLong}
+use Rattle.model.specs.Jobs.{counted, ranged, celled, judge, edgesFrom}
+use Rattle.model.specs.Trees.{trees, anyLong}
 use Rattle.model.specs.Store.{sizes, forest, nodesOf, storeOf}
 use Rattle.model.specs.Plates.{cellsOf, mapOf}
 use Rattle.model.specs.Entries.{mapRefusal, map, mapStore, mapCells, over}
-use Rattle.ranges.specs.Legal.{legal}
-use Rattle.subtrees.specs.Preorder.{size-pos}
+use Rattle.ranges.specs.Jobs.{judge-sized}
+use Rattle.subtrees.specs.Sizes.{forest-is, forest-some}
 
 -- ---- a job that is refused by itself is refused so by every entry, and otherwise the later checks tell
 -- the checks of a job, with those that come after them
@@ -68,22 +68,6 @@ module _ (j : Job) (s : List ℤ) (c : List ℕ) where
   map-passed e l h m = sym (job-passed j _ e ∙ rw (l, le-leb (7 * nodesOf j) (length s) h, le-leb (cellsOf j) (length c) m))
 
 -- ---- the count of nodes is 0 for a long job and only there
-sizes-some : (ts : List Tree) → 1 ≤ length ts → 1 ≤ sizes ts
-sizes-some [] h = absurd (omega arith)
-sizes-some (t ∷ ts) h = omega (arith, size-pos t)
-
-edges-long : (T : ℤ) (vs : List ℤ) (k e : ℕ) → length (trees T (edgesFrom vs k e)) ≡ k
-unfolding edgesFrom
-edges-long T vs zero e = refl
-edges-long T vs (suc k) e = ap suc (edges-long T vs k (e + 1))
-
-pub forest-is : (j : Job) → forest j ≡ trees (j .grain) (edgesFrom (j .places) (j .count) 0)
-unfolding forest outline
-forest-is j = refl
-
-some-nodes : (j : Job) → judge j ≡ 0 → 1 ≤ nodesOf j
-some-nodes j e = sizes-some (forest j) (omega (arith, legal j e .some, ap length (forest-is j) ∙ edges-long (j .grain) (j .places) (j .count) 0))
-
 told : (b : Bool) (n k : ℕ) → k ≡ cond b 0 n → 1 ≤ n → ((k ≡ 0) → b ≡ true) × ((k ≡ 0 → ⊥) → (b ≡ false) × (k ≡ n))
 told true n k e h = ((λ z. refl), (λ z. absurd (z e)))
 told false n k e h = ((λ z. absurd (omega arith)), (λ z. (refl, e)))
@@ -94,10 +78,10 @@ module _ (j : Job) (ok : judge j ≡ 0) (k : ℕ) (e : k ≡ cond (anyLong (tree
   counted-is = e ∙ ap (λ ts. cond (anyLong ts) 0 (sizes ts)) (sym (forest-is j))
 
   pub none-long : k ≡ 0 → anyLong (forest j) ≡ true
-  none-long = told (anyLong (forest j)) (nodesOf j) k counted-is (some-nodes j ok) .0
+  none-long = told (anyLong (forest j)) (nodesOf j) k counted-is (forest-some j (judge-sized j ok)) .0
 
   pub some-short : (k ≡ 0 → ⊥) → (anyLong (forest j) ≡ false) × (k ≡ nodesOf j)
-  some-short = told (anyLong (forest j)) (nodesOf j) k counted-is (some-nodes j ok) .1
+  some-short = told (anyLong (forest j)) (nodesOf j) k counted-is (forest-some j (judge-sized j ok)) .1
 
 -- ---- where every check passes
 pub record Passed (j : Job) (numbers room nodes : ℕ) : Type 0 where

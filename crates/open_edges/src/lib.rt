@@ -17,7 +17,7 @@ fn ask(store: &[i32], a: usize, x: i64, y: i64, s: i64, r: i64, enough: u8) -> u
     requires { ⌜ TreeAt (now store) a × CellSized x y s r × Enough x y s r enough ⌝ }
     ensures answer { λ e. ⌜ ((t : Tree) → At (now (store .entry)) a t → e ≡ code (explore (verdict r (cellAt x y s)) t)) ⌝ }
 {
-    let n = search::count_at(store, a + 6);
+    let n = arithmetic::count_at(store, a + 6);
     let b = a + 7 * n;
     search::search(&store[a..b], x, y, s, r, enough)
 }
@@ -78,7 +78,7 @@ pub fn list_starts(store: &[i32], count: usize, list: &mut [usize; 64])
     let mut e: usize = 0;
     while e < count {
         list[e] = at;
-        at += 7 * search::count_at(store, at + 6);
+        at += 7 * arithmetic::count_at(store, at + 6);
         e += 1;
     }
 }

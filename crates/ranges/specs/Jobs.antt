@@ -11,7 +11,7 @@ use lib.ListN.{getD}
 use Rattle.model.specs.declared.Job.{Job}
 use Rattle.model.specs.Jobs.{between, coordinate, isZero, placed, counted, ranged, judge, Cubic, Edge, cubicAt, edgeAt, edgesFrom, outline}
 use Rattle.model.specs.Store.{forest}
-use Rattle.ranges.specs.Legal.{both, le-of, passed, is-counted, is-ranged}
+use Rattle.ranges.specs.Legal.{both, le-of, all-passed, is-counted, is-ranged}
 use Rattle.ranges.specs.Sizes.{ControlSized, EachSized}
 use Rattle.ranges.specs.Strips.{EdgeSized, EdgesSized, trees-sized}
 
@@ -81,11 +81,7 @@ ranged-sized j c r =
     }
 
 pub judge-sized : (j : Job) → judge j ≡ 0 → JobSized j
-unfolding judge
-judge-sized j e =
-    let c = passed (counted j) _ 1 e in
-    let r = passed (ranged j) _ 2 (c .1) in
-    ranged-sized j (c .0) (r .0)
+judge-sized j e = let a = all-passed j e in ranged-sized j (a .0) (a .1)
 
 pub forest-sized : (j : Job) → JobSized j → EachSized (forest j)
 unfolding forest outline

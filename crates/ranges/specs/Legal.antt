@@ -53,12 +53,17 @@ is-ranged j e =
     let t = both (between (pos 1) (pos 100000) (j .grain)) _ (r .1) in
     record { x-in = x .0; y-in = y .0; n-in = n .0; m-in = m .0; reach-in = r .0; grain-in = t .0; places-in = t .1 }
 
-pub legal : (j : Job) → judge j ≡ 0 → Legal j
-unfolding judge celled
-legal j e =
+pub all-passed : (j : Job) → judge j ≡ 0 → (counted j ≡ true) × (ranged j ≡ true) × (celled j ≡ true)
+unfolding judge
+all-passed j e =
     let a = passed (counted j) _ 1 e in
     let b = passed (ranged j) _ 2 (a .1) in
-    let c = passed (celled j) 0 3 (b .1) in
+    (a .0, b .0, passed (celled j) 0 3 (b .1) .0)
+
+pub legal : (j : Job) → judge j ≡ 0 → Legal j
+unfolding celled
+legal j e =
+    let a = all-passed j e in
     let n = is-counted j (a .0) in
-    let m = both (leZ (j .m) (j .n)) (leZ (j .n -ℤ j .m) (pos 8)) (c .0) in
-    record { some = n .0; few = n .1; in-range = is-ranged j (b .0); cell-fits = m .0; few-cells = m .1 }
+    let m = both (leZ (j .m) (j .n)) (leZ (j .n -ℤ j .m) (pos 8)) (a .2) in
+    record { some = n .0; few = n .1; in-range = is-ranged j (a .1); cell-fits = m .0; few-cells = m .1 }

@@ -1,5 +1,7 @@
 // A cell's answer from one edge's part of the store, by recursion on the two subtrees of a node. Answers are 0 away, 1 maybe, 2 inside, as
 // `code` gives them, so that joined the larger holds.
+use arithmetic::count_at;
+use arithmetic::wide_at;
 ghost use mathlib.Core.Path.{_≡_};
 ghost use mathlib.Core.Bool.{cond};
 ghost use Prim.Native.Nat.{ℕ, _≤_, _<_};
@@ -13,22 +15,6 @@ ghost use Rattle.model.specs.Explore.{verdict, explore};
 ghost use Rattle.ranges.specs.Sizes.{Sized, AllSized};
 ghost use Rattle.strip_tests.specs.PlainTests.{code};
 ghost use Rattle.search.specs.Held.{CellSized, stripAt, cellAt, TreeOf, Enough};
-
-// a number of the store, in 64 bits
-pub fn wide_at(s: &[i32], i: usize) -> i64
-    requires { ⌜ i < length (now s) ⌝ }
-    ensures number { λ r. ⌜ r ≡ getD (now (s .entry)) i (pos 0) ⌝ }
-{
-    s[i] as i64
-}
-
-// a number of the store that is a count of nodes
-pub fn count_at(s: &[i32], i: usize) -> usize
-    requires { ⌜ (i < length (now s)) × T (nonNeg (getD (now s) i (pos 0))) ⌝ }
-    ensures count { λ r. ⌜ r ≡ natAbs (getD (now (s .entry)) i (pos 0)) ⌝ }
-{
-    wide_at(s, i) as usize
-}
 
 // the answer of the first node of part by itself
 fn own(part: &[i32], x: i64, y: i64, s: i64, r: i64) -> u8

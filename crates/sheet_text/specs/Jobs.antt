@@ -10,7 +10,8 @@ use lib.ListN.{length, take, drop}
 use lib.Seq.{getD-drop}
 use borrow.Author.Tests.{leb-true, eqb-true}
 use Rattle.model.specs.declared.Job.{Job}
-use Rattle.model.specs.Jobs.{between, coordinate, isZero, placed, counted, ranged, celled, judge}
+use Rattle.model.specs.Jobs.{between, coordinate, isZero, placed, judge}
+use Rattle.ranges.specs.Legal as limits
 use Rattle.model.specs.Sheets.{fit}
 use Rattle.sheet_text.specs.Tests.{no-way, both}
 use Rattle.sheet_text.specs.Numbers.{Small}
@@ -75,32 +76,18 @@ pub record Legal (j : Job) : Type 0 where
   pub grain-small : Small (j .grain)
   pub edges : placed (8 * j .count) (j .places) ≡ true
 
--- each check passed
-pub passes : (a b c : Bool) → _≡_ {A = ℕ} (cond a (cond b (cond c 0 4) 3) 2) 0 → (a ≡ true) × (b ≡ true) × (c ≡ true)
-passes true true true h = (refl, refl, refl)
-passes true true false h = absurd (omega arith)
-passes true false c h = absurd (omega arith)
-passes false b c h = absurd (omega arith)
-
 pub legal : (j : Job) → judge j ≡ 0 → Legal j
-unfolding judge counted ranged
 legal j h =
-    let l = passes (counted j) (ranged j) (celled j) h in
-    let n = both (leb 1 (j .count)) (leb (j .count) 64) (l .0) in
-    let r₁ = both _ _ (l .1) in
-    let r₂ = both _ _ (r₁ .1) in
-    let r₃ = both _ _ (r₂ .1) in
-    let r₄ = both _ _ (r₃ .1) in
-    let r₅ = both _ _ (r₄ .1) in
-    let r₆ = both _ _ (r₅ .1) in
+    let l = limits.legal j h in
+    let r = l .in-range in
     record {
-      some = leb-true 1 (j .count) (n .0);
-      few = leb-true (j .count) 64 (n .1);
-      x-small = coordinate-small (j .x) (r₁ .0);
-      y-small = coordinate-small (j .y) (r₂ .0);
-      n-small = small-from 0 20 (j .n) (lit< tt) (r₃ .0);
-      m-small = small-from 0 20 (j .m) (lit< tt) (r₄ .0);
-      reach-small = small-from 1 1000000 (j .reach) (lit< tt) (r₅ .0);
-      grain-small = small-from 1 100000 (j .grain) (lit< tt) (r₆ .0);
-      edges = r₆ .1;
+      some = l .some;
+      few = l .few;
+      x-small = coordinate-small (j .x) (r .x-in);
+      y-small = coordinate-small (j .y) (r .y-in);
+      n-small = small-from 0 20 (j .n) (lit< tt) (r .n-in);
+      m-small = small-from 0 20 (j .m) (lit< tt) (r .m-in);
+      reach-small = small-from 1 1000000 (j .reach) (lit< tt) (r .reach-in);
+      grain-small = small-from 1 100000 (j .grain) (lit< tt) (r .grain-in);
+      edges = r .places-in;
     }

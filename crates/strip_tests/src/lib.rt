@@ -1,18 +1,12 @@
 // What one strip says of one cell, in 64-bit numbers and with no square root. Taken apart into the tests of document 01's
 // "Exploring the plate", each over plain numbers: w from the strip's centre to the cell's, the axis (p, q), the box halves with the half side.
+use arithmetic::abs;
 ghost use mathlib.Core.Path.{_≡_};
 ghost use Prim.Native.Nat.{ℕ, _≤_};
 ghost use lib.IntN.{ℤ, natAbs};
 ghost use Rattle.integers.specs.Absolute.{absℤ};
 ghost use Rattle.strip_tests.specs.PlainTests.{insideBy, apartBy, excessBy, mostBy, capBy, isBeyond, slantedBy, judgeBy, code};
 ghost use Rattle.strip_tests.specs.Limits.{SpanSized, CrossSized, NodeSized};
-
-pub fn abs(x: i64) -> i64
-    requires { ⌜ natAbs x ≤ 4000000000000000000 ⌝ }
-    ensures size { λ r. ⌜ r ≡ absℤ x ⌝ }
-{
-    if x < 0 { 0 - x } else { x }
-}
 
 // the larger of two
 fn most(a: i64, b: i64) -> i64

@@ -7,16 +7,9 @@ use lib.IntN.{ℤ, pos, negsuc, _-ℤ_}
 use lib.Signed.{leZ}
 use Rattle.integers.specs.Order.{_≼_}
 use Rattle.model.specs.declared.Job.{Job}
-use Rattle.model.specs.Jobs.{between, coordinate, counted, ranged, celled, judge, placed}
-use Rattle.verdicts.specs.Answers.{clash, le-true, and-true}
-
--- a check with a number above 0 that gives 0 passed, and so did those after it
-passed : (b : Bool) (k n : ℕ) → cond b n (suc k) ≡ 0 → (b ≡ true) × (n ≡ 0)
-passed true k n e = (refl, e)
-passed false k n e = clash (cc)
-
-leb-true : {m n : ℕ} → leb m n ≡ true → m ≤ n
-leb-true {m} {n} e = leb→le m n (subst T (sym e) tt)
+use Rattle.model.specs.Jobs.{between, coordinate, judge, placed}
+use Rattle.ranges.specs.Legal as limits
+use Rattle.verdicts.specs.Answers.{le-true, and-true}
 
 pub record Between (lo hi z : ℤ) : Type 0 where
   pub from : lo ≼ z
@@ -46,31 +39,20 @@ pub record Legal (j : Job) : Type 0 where
   pub within-plate : j .m ≼ j .n
   pub few : j .n -ℤ j .m ≼ pos 8
 
-module _ (j : Job) where
-  pub legal : judge j ≡ 0 → Legal j
-  unfolding judge counted ranged celled
-  legal e =
-      let a = passed (counted j) 1 _ e in
-      let b = passed (ranged j) 2 _ (a .1) in
-      let c = passed (celled j) 3 _ (b .1) in
-      let count = and-true _ _ (a .0) in
-      let r₁ = and-true _ _ (b .0) in
-      let r₂ = and-true _ _ (r₁ .1) in
-      let r₃ = and-true _ _ (r₂ .1) in
-      let r₄ = and-true _ _ (r₃ .1) in
-      let r₅ = and-true _ _ (r₄ .1) in
-      let r₆ = and-true _ _ (r₅ .1) in
-      let cell = and-true _ _ (c .0) in
-      record {
-        some = leb-true (count .0);
-        most = leb-true (count .1);
-        corner-x = coordinate-true (r₁ .0);
-        corner-y = coordinate-true (r₂ .0);
-        plate = between-true (r₃ .0);
-        cell = between-true (r₄ .0);
-        reach-in = between-true (r₅ .0);
-        grain-in = between-true (r₆ .0);
-        controls = r₆ .1;
-        within-plate = le-true (cell .0);
-        few = le-true (cell .1);
-      }
+pub legal : (j : Job) → judge j ≡ 0 → Legal j
+legal j e =
+    let l = limits.legal j e in
+    let r = l .in-range in
+    record {
+      some = l .some;
+      most = l .few;
+      corner-x = coordinate-true (r .x-in);
+      corner-y = coordinate-true (r .y-in);
+      plate = between-true (r .n-in);
+      cell = between-true (r .m-in);
+      reach-in = between-true (r .reach-in);
+      grain-in = between-true (r .grain-in);
+      controls = r .places-in;
+      within-plate = le-true (l .cell-fits);
+      few = le-true (l .few-cells);
+    }

@@ -22,7 +22,8 @@ use Rattle.model.specs.Sheets.{grainForm, endForm, defaultGrain, stated, sheetO
 use Rattle.model.specs.Entries.{writeRefusal, write, writeLeaves}
 use Rattle.sheet_text.specs.Numbers.{Small}
 use Rattle.sheet_text.specs.Forms.{AllSmall, nil-small, cons-small}
-use Rattle.sheet_text.specs.Jobs.{legal, placed-small, passes}
+use Rattle.ranges.specs.Legal.{all-passed}
+use Rattle.sheet_text.specs.Jobs.{legal, placed-small}
 use Rattle.sheet_text.specs.Code.{headOf, headText, edgesText, codeText, sheet-as-code, room}
 use Rattle.printing.specs.Puts.{Put}
 use Rattle.printing.proofs.Numbers.{put-then, small-fits, small-again}
@@ -112,11 +113,11 @@ module _ (j : Job) (out : List ℕ) where
 
     no-room : length out < n → writeRefusal j out ≡ 7
     unfolding writeRefusal judge
-    no-room h = let l = passes (counted j) (ranged j) (celled j) (sym e ∙ z) in rw (l .0, l .1, l .2, lt-leb (length (sheetOf j)) (length out) (omega (arith, size)))
+    no-room h = let l = all-passed j (sym e ∙ z) in rw (l .0, l .1, l .2, lt-leb (length (sheetOf j)) (length out) (omega (arith, size)))
 
     has-room : n ≤ length out → writeRefusal j out ≡ 0
     unfolding writeRefusal judge
-    has-room h = let l = passes (counted j) (ranged j) (celled j) (sym e ∙ z) in rw (l .0, l .1, l .2, le-leb (length (sheetOf j)) (length out) (omega (arith, size)))
+    has-room h = let l = all-passed j (sym e ∙ z) in rw (l .0, l .1, l .2, le-leb (length (sheetOf j)) (length out) (omega (arith, size)))
 
     pub no-space : length out < n → record { refusal = 7; bytes = 0 } ≡ write j out
     unfolding write accepted

@@ -5,7 +5,7 @@ use Rattle.arithmetic.proofs.abs.Statement.{statement}
 use Rattle.arithmetic.proofs.abs.Tie as tie
 use Rattle.integers.specs.Signed.{Made, arg, lit, minus, back, test-lt, neg-abs, pos-abs}
 
-x : (c : tie.Start) → Made (c .args .x) (c .args .x) 4294967296
+x : (c : tie.Start) → Made (c .args .x) (c .args .x) 4000000000000000000
 x c = arg (c .pre) (c .fits .x)
 
 sub-result : tie.Need-sub-result

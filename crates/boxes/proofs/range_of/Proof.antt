@@ -76,10 +76,10 @@ sub-abs : tie.Need-sub-abs
 sub-abs c = (minus (point (start c)) (centre c) tt) .fits
 
 abs-requires : tie.Need-abs-requires
-abs-requires c κs = sized 4294967296 (minus (point (start c)) (centre c) tt) tt
+abs-requires c κs = sized 4000000000000000000 (minus (point (start c)) (centre c) tt) tt
 
 abs-requires-2 : tie.Need-abs-requires-2
-abs-requires-2 c κs = sized 4294967296 (axis (c .before)) tt
+abs-requires-2 c κs = sized 4000000000000000000 (axis (c .before)) tt
 
 sub-at-least-0 : tie.Need-sub-at-least-0
 sub-at-least-0 c = (minus (w c) (a c) tt) .fits

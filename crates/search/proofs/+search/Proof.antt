@@ -26,7 +26,7 @@ use Rattle.search.proofs.search.Reads as search′
 use Rattle.search.proofs.search.Kinds as search-kinds
 use Rattle.search.proofs.+search.Lts-search as search-lts
 use Rattle.search.proofs.join.Reads as join-reads
-use Rattle.search.proofs.count_at.Reads as count-at-reads
+use Rattle.arithmetic.proofs.count_at.Reads as count-at-reads
 use Rattle.search.proofs.own.Reads as own-reads
 use Rattle.search.proofs.+search.{statement}
 use Rattle.search.proofs.+search.Tie.{close}

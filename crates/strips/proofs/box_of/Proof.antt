@@ -69,10 +69,10 @@ rounded-requires-2 c κs =
     rw (back t, toZ-ofZ (s .fits .cube)) ((widen 3900000000000000000 t tt) .within, s .pre .3, s .pre .4, s .pre .5)
 
 abs-requires : tie.Need-abs-requires
-abs-requires c κs = sized 4294967296 (second (c .before)) tt
+abs-requires c κs = sized 4000000000000000000 (second (c .before)) tt
 
 abs-requires-2 : tie.Need-abs-requires-2
-abs-requires-2 c κs = sized 4294967296 (third (c .before)) tt
+abs-requires-2 c κs = sized 4000000000000000000 (third (c .before)) tt
 
 add-result : tie.Need-add-result
 add-result c = (plus (first-size (c .before)) (other-size c) tt) .fits

@@ -18,7 +18,7 @@ module _ (c : tie.After-abs) where
   half = held (c .before .before .before .args .s .half) (c .before .before .before .pre .box-size) tt
 
 abs-requires : tie.Need-abs-requires
-abs-requires c κs = sized 4294967296 (ax c) tt
+abs-requires c κs = sized 4000000000000000000 (ax c) tt
 
 add-result : tie.Need-add-result
 add-result c = (plus (size c) (half c) tt) .fits
