@@ -29,23 +29,11 @@ pub ≺-≼-trans : {a b c : ℤ} → a ≺ b → b ≼ c → a ≺ c
 pub ≼-≺-trans : {a b c : ℤ} → a ≼ b → b ≺ c → a ≺ c
 ≼-≺-trans {a} {b} {c} = name₃ a b c λ σ p q r. simp (p, q, r, reify) (omega zarith)
 
-pub ≼-antisym : {a b : ℤ} → a ≼ b → b ≼ a → a ≡ b
-≼-antisym {a} {b} = name₂ a b λ σ p q. simp (p, q, reify) (omega zarith)
-
 pub weak : {a b : ℤ} → a ≺ b → a ≼ b
 weak {a} {b} = name₂ a b λ σ p q. simp (p, q, reify) (omega zarith)
 
-pub ≺→suc≼ : {a b : ℤ} → a ≺ b → a +ℤ pos 1 ≼ b
-≺→suc≼ {a} {b} = name₂ a b λ σ p q. simp (p, q, reify, σ) (omega zarith)
-
-pub suc≼→≺ : {a b : ℤ} → a +ℤ pos 1 ≼ b → a ≺ b
-suc≼→≺ {a} {b} = name₂ a b λ σ p q. simp (p, q, reify, σ) (omega zarith)
-
 pub ≼-+ : {a b c d : ℤ} → a ≼ b → c ≼ d → a +ℤ c ≼ b +ℤ d
 ≼-+ {a} {b} {c} {d} = name₄ a b c d λ σ p q r s. simp (p, q, r, s, reify) (omega zarith)
-
-pub ≼-neg : {a b : ℤ} → a ≼ b → negℤ b ≼ negℤ a
-≼-neg {a} {b} = name₂ a b λ σ p q. simp (p, q, reify) (omega zarith)
 
 -- one of the two holds
 pub split≼ : (a b : ℤ) → (a ≼ b) ⊎ (b ≺ a)
@@ -91,19 +79,7 @@ pub ≼-* : {a b c d : ℤ} → pos 0 ≼ a → a ≼ b → pos 0 ≼ c → c �
 pub ≼-*l-off : {a b c : ℤ} → pos 0 ≺ c → c *ℤ a ≼ c *ℤ b → a ≼ b
 ≼-*l-off h k = by-contra (λ l. clashℤ (≺-*l h l) k)
 
-pub ≺-*l-off : {a b c : ℤ} → pos 0 ≺ c → c *ℤ a ≺ c *ℤ b → a ≺ b
-≺-*l-off h k = by-contra⁺ (λ l. clashℤ k (≼-*l (weak h) l))
-
--- a certificate of a multiple: k (q − p) is not negative, and k is positive
-pub le-by-mult : {k s p q : ℤ} → pos 0 ≺ k → pos 0 ≼ s → k *ℤ (q -ℤ p) ≡ s → p ≼ q
-le-by-mult {k} {s} {p} {q} hk hs e =
-    ≼-*l-off hk (from (hs & e) (name₄ k s p q λ σ a b c d. simp (a, b, c, d, reify, σ) (omega zarith)))
-
 -- squares: from a² ≤ b² to a ≤ b
 pub sq-≼ : {a b : ℤ} → pos 0 ≼ b → a *ℤ a ≼ b *ℤ b → a ≼ b
 sq-≼ {a} {b} h k =
     by-contra (λ l. from (k & gap⁺ l ⊠⁺ gap⁺ l & h ⊠ gap (weak l)) (name₂ a b λ σ p q. simp (p, q, reify, σ) (omega zarith)))
-
-pub sq-≺ : {a b : ℤ} → pos 0 ≼ b → a *ℤ a ≺ b *ℤ b → a ≺ b
-sq-≺ {a} {b} h k =
-    by-contra⁺ (λ l. from (k & gap l ⊠ gap l & h ⊠ gap l) (name₂ a b λ σ p q. simp (p, q, reify, σ) (omega zarith)))

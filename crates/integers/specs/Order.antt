@@ -142,6 +142,3 @@ pub ≼-pos : {m n : ℕ} → pos m ≼ pos n → m ≤ n
 
 pub pos-≺ : {m n : ℕ} → m < n → pos m ≺ pos n
 pos-≺ {m} {n} h = ltZ-yes (lt→ltb m n h)
-
-pub ≺-pos : {m n : ℕ} → pos m ≺ pos n → m < n
-≺-pos {m} {n} h = ltb→lt m n (h .lt)

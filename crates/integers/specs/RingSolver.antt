@@ -324,40 +324,6 @@ nth [] i = pos 0
 nth (x ∷ ρ) zero = x
 nth (x ∷ ρ) (suc i) = nth ρ i
 
-pub ring : (ρ : List ℤ) (l r : Expr) → Same l r → eval (nth ρ) l ≡ eval (nth ρ) r
-ring ρ l r t = solve (nth ρ) l r t
-
--- the variables by their places
-abbrev pub v0 : Expr
-v0 = var 0
-
-abbrev pub v1 : Expr
-v1 = var 1
-
-abbrev pub v2 : Expr
-v2 = var 2
-
-abbrev pub v3 : Expr
-v3 = var 3
-
-abbrev pub v4 : Expr
-v4 = var 4
-
-abbrev pub v5 : Expr
-v5 = var 5
-
-abbrev pub v6 : Expr
-v6 = var 6
-
-abbrev pub v7 : Expr
-v7 = var 7
-
-abbrev pub v8 : Expr
-v8 = var 8
-
-abbrev pub v9 : Expr
-v9 = var 9
-
 -- ---- the solver that reads the goal itself. `val σ e` is `eval σ e`, shut: `simp reify` turns a goal over ℤ, from its leaves up, into `val σ l ≡ val σ r`
 pub val : Env → Expr → ℤ
 val σ e = eval σ e
