@@ -1,20 +1,20 @@
 -- Demand 3 of the map that an accepted call leaves, and the bounds of the point that an accepted call answers. Assumes nothing.
-use mathlib.Core.Path.{_≡_, refl, sym, ap, _∙_, subst}
+use mathlib.Core.Path.{_≡_, refl, sym, _∙_, subst}
 use mathlib.Core.Bool.{Bool, true, false, not, cond, _&&_}
-use mathlib.Core.List.{List, _++_}
-use Prim.Native.Nat.{ℕ, zero, suc, _+_, _*_, _≤_, _<_}
+use mathlib.Core.List.{List}
+use Prim.Native.Nat.{ℕ, zero, suc, _+_, _*_, _<_}
 use native.Mathlib.Nat.{mul-le-mul-right}
 use native.Mathlib.Omega.{arith}
 use lib.Dec.{leb}
 use lib.IntN.{ℤ, pos}
-use lib.ListN.{length, getD, drop, List·getD-append}
+use lib.ListN.{length, drop, List·getD-append}
 use Rattle.sequences.specs.RowMajor.{length-rowMajor}
 use Rattle.model.specs.declared.Job.{Job}
 use Rattle.model.specs.declared.Nearest.{Nearest}
 use Rattle.model.specs.Refusals.{accepted}
 use Rattle.model.specs.Jobs.{coordinate, counted, ranged, celled, judge}
 use Rattle.model.specs.Trees.{anyLong}
-use Rattle.model.specs.Store.{width, forest, nodesOf, storeOf, begins}
+use Rattle.model.specs.Store.{width, forest, nodesOf}
 use Rattle.model.specs.Plates.{letter, mapped, columns, cellsOf, mapOf}
 use Rattle.model.specs.Distance.{lo, hi}
 use Rattle.model.specs.Entries.{over, mapRefusal, map, mapCells, pointRefusal, IsNearest}

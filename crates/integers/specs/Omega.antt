@@ -10,7 +10,7 @@ use native.Mathlib.Omega.{arith}
 use lib.Dec.{T, leb→le, le→leb, ltb→lt, lt→ltb}
 use lib.IntN.{ℤ, pos, negsuc, negℤ, _+ℤ_, _-ℤ_, _*ℤ_, +ℤ-idl, +ℤ-idr, +ℤ-invr, natAbs}
 use lib.Signed.{leZ-yes, ltZ-yes}
-use Rattle.integers.specs.RingSolver.{Env, later, _^ℤ_, pow-suc, mono-cons, name₂, Expr, _:-_, Term, term, terms, norm, mono, mono-nil, total, total-nil, total-cons, total-norm, eval, val, val-is, name₅, reify, close, ok, diff-zero}
+use Rattle.integers.specs.RingSolver.{Env, later, _^ℤ_, pow-suc, mono-cons, name₂, Expr, _:-_, Term, term, terms, norm, mono, mono-nil, total, total-nil, total-cons, total-norm, val, val-is, name₅, reify, close, ok, diff-zero}
 use Rattle.integers.specs.Order.{_≼_, _≺_, num, sq, _⊠_, gap, gap⁺, le-by, lt-by}
 
 abbrev pub posPart : ℤ → ℕ

@@ -1,15 +1,14 @@
 -- The order of ℤ, worked with by certificates: p ≤ q where q − p is a sum of products of things that are not negative. The ring solver checks that sum.
 -- Assumes nothing.
-use mathlib.Core.Path.{_≡_, refl, sym, _∙_, ap, ap₂, subst}
+use mathlib.Core.Path.{_≡_, refl, sym, _∙_, ap, subst}
 use mathlib.Core.Bool.{Bool, true, false, not, cond}
-use mathlib.Core.Logic.{_⊎_, inl, inr}
 use Prim.Native.Nat.{ℕ, zero, suc, _+_, _*_, _-_, _≤_, _<_}
 use native.Mathlib.Omega.{arith}
-use lib.Dec.{T, leb, ltb, leb→le, le→leb, ltb→lt, lt→ltb, nltb→le}
+use lib.Dec.{T, leb, ltb, leb→le, le→leb, ltb→lt, lt→ltb}
 use lib.Arith.{le→nltb}
-use lib.IntN.{ℤ, pos, negsuc, negℤ, subℕ, _+ℤ_, _-ℤ_, _*ℤ_, +ℤ-assoc, +ℤ-idr, +ℤ-negℤ-cancel}
-use lib.Signed.{_≤ℤ_, _<ℤ_, leZ, ltZ, leZ-yes, ltZ-yes, ltZ-no, ≤ℤ-refl, clashℤ}
-use Rattle.integers.specs.RingSolver.{name₁, name₂, name₃, name₄, name₅, reify, close, ok}
+use lib.IntN.{ℤ, pos, negsuc, subℕ, _+ℤ_, _-ℤ_, _*ℤ_}
+use lib.Signed.{_≤ℤ_, _<ℤ_, leZ, ltZ, leZ-yes, ltZ-yes, ≤ℤ-refl}
+use Rattle.integers.specs.RingSolver.{name₂, reify, close, ok}
 
 -- `lib.Signed` gives its order a fixity above the sum's: `a ≤ℤ b +ℤ c` is read `(a ≤ℤ b) +ℤ c`. The same order, with the fixity of `≡`
 infix 4 _≼_ _≺_

@@ -6,7 +6,7 @@ use mathlib.Core.List.{List, [], _∷_}
 use Prim.Native.Nat.{ℕ, zero, suc, _+_, _*_}
 use native.Mathlib.Omega.{arith}
 use lib.IntN.{ℤ, pos, negsuc, negℤ, one, _+ℤ_, _-ℤ_, _*ℤ_, +ℤ-assoc, +ℤ-comm, +ℤ-idl, +ℤ-idr, negℤ-+ℤ, *ℤ-comm, *ℤ-one, zero-*ℤ, *ℤ-zero, -ℤ-+ℤ-cancel}
-use Rattle.integers.specs.RingLaws.{+ℤ-swap, *ℤ-+ℤ, +ℤ-*ℤ, neg-*ℤ, *ℤ-neg, *ℤ-assoc, *ℤ-left-comm}
+use Rattle.integers.specs.RingLaws.{+ℤ-swap, *ℤ-+ℤ, +ℤ-*ℤ, *ℤ-neg, *ℤ-assoc, *ℤ-left-comm}
 
 -- x², x³ are x *ℤ x, x *ℤ x *ℤ x
 infixl 8 _^ℤ_

@@ -1,21 +1,20 @@
 -- The needs of the writers of a map's text, over plain variables. Assumes nothing.
-use mathlib.Core.Path.{_≡_, refl, sym, ap, ap₂, _∙_, subst}
+use mathlib.Core.Path.{_≡_, refl, sym, ap, _∙_, subst}
 use mathlib.Core.List.{List, [], _∷_, _++_, append-assoc, append-nil}
-use Prim.Native.Nat.{ℕ, zero, suc, _+_, _*_, _-_, _^_, _≤_, _<_}
+use Prim.Native.Nat.{ℕ, zero, suc, _+_, _*_, _-_, _≤_, _<_}
 use native.Mathlib.Nat.{mul-le-mul, mul-le-mul-right}
 use native.Mathlib.Numerals.{add-one}
 use native.Mathlib.Omega.{arith}
 use lib.Dec.{lit<}
-use lib.IntN.{ℤ, pos, natAbs}
+use lib.IntN.{ℤ, pos}
 use lib.ListN.{length, getD, set, take, drop, length-append, length-drop}
-use lib.Seq.{paste, paste-suc, paste-zero, take-all, take-paste, drop-paste, drop-drop, length-take-le}
+use lib.Seq.{paste, paste-suc, take-all, take-paste, drop-paste, drop-drop, length-take-le}
 use mir.Syntax.{w32}
-use mir.Val.{toZ, ofZ}
+use mir.Val.{toZ}
 use mir.Facts.{toZ-pos}
-use borrow.Rule.Slice.PartMut.{midOf}
 use Rattle.model.specs.Bytes.{bytes}
 use Rattle.model.specs.Forms.{writeForm}
-use Rattle.model.specs.Printing.{refusedForm, mapForm, rowText, rowsText}
+use Rattle.model.specs.Printing.{rowText, rowsText}
 use Rattle.sheet_text.specs.Numbers.{Small}
 use Rattle.sheet_text.specs.Forms.{AllSmall}
 use Rattle.printing.specs.Puts.{Put}

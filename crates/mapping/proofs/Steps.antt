@@ -2,7 +2,7 @@
 use mathlib.Core.Path.{_≡_, refl, sym, ap, ap₂, _∙_, subst}
 use mathlib.Core.Bool.{Bool, true, false, cond}
 use mathlib.Core.List.{List, _++_}
-use Prim.Native.Nat.{ℕ, zero, suc, _+_, _-_, _*_, _^_, _≤_, _<_}
+use Prim.Native.Nat.{ℕ, _+_, _-_, _*_, _^_, _≤_, _<_}
 use native.Mathlib.Nat.{mul-le-mul, pow-le-pow-right}
 use native.Mathlib.Omega.{arith}
 use lib.Dec.{T, lit<}
@@ -10,21 +10,19 @@ use lib.IntN.{ℤ, pos, negsuc, natAbs}
 use lib.Signed.{mag, nonNeg}
 use lib.ListN.{length, drop}
 use mir.Syntax.{w32, w64}
-use mir.Val.{Fits, SFits, toZ, ofZ}
-use mir.Facts.{toZ-ofZ, fits-natAbs}
+use mir.Val.{Fits, toZ, ofZ}
 use Rattle.integers.specs.Signed.{read32, read64}
 use Rattle.model.specs.declared.Job.{Job}
-use Rattle.model.specs.declared.Map.{Map}
-use Rattle.model.specs.Jobs.{between, judge, plateLog, cellLog, edgesFrom}
-use Rattle.model.specs.Trees.{Tree, trees, anyLong}
-use Rattle.model.specs.Store.{size, sizes, flatten, flattenAll, forest, nodesOf, storeOf}
-use Rattle.model.specs.Plates.{columns, cellsOf, mapOf}
-use Rattle.model.specs.Entries.{over, mapRefusal, map, mapStore, mapCells}
-use Rattle.ranges.specs.Legal.{both, le-of, legal}
-use Rattle.ranges.specs.Jobs.{Limits, GrainSized, JobSized, judge-sized, forest-sized}
+use Rattle.model.specs.Jobs.{between, judge, edgesFrom}
+use Rattle.model.specs.Trees.{trees, anyLong}
+use Rattle.model.specs.Store.{sizes, flattenAll, forest, nodesOf, storeOf}
+use Rattle.model.specs.Plates.{columns, cellsOf}
+use Rattle.model.specs.Entries.{over, mapRefusal}
+use Rattle.ranges.specs.Legal.{legal}
+use Rattle.ranges.specs.Jobs.{Limits, GrainSized, judge-sized, forest-sized}
 use Rattle.subtrees.specs.Preorder.{length-all}
 use Rattle.subtrees.specs.Sizes.{forest-is, few-trees}
-use Rattle.drawing.specs.Ready.{NumbersSized, MapReady, AnyReady}
+use Rattle.drawing.specs.Ready.{MapReady}
 use Rattle.drawing.proofs.Maps.{job-numbers}
 use Rattle.mapping.specs.Checks.{Passed, Refuses, map-refused, map-long, map-store, map-space, map-passed, none-long, some-short}
 use Rattle.mapping.specs.Placed.{Places}

@@ -3,7 +3,7 @@ use mathlib.Core.Bool.{Bool, _&&_}
 use mathlib.Core.List.{List, [] as none-left, _∷_ as _then_}
 use Prim.Native.Nat.{ℕ}
 use Prim.Native.String.{String, [], _∷_}
-use Prim.Native.Char.{Char, code}
+use Prim.Native.Char.{code}
 use lib.Dec.{leb}
 
 -- a text's bytes, one for each of its characters, all of which are ASCII here

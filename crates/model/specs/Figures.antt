@@ -1,9 +1,8 @@
 -- Document 01, "Figures to hold": its worked figures, as one table, and one statement that the definitions give each of them. The sheet and
 -- the map of "The job sheet" stand with them. Everything is computed. Assumes nothing.
 use mathlib.Core.Path.{_≡_, refl}
-use mathlib.Core.Bool.{true, false}
 use mathlib.Core.List.{List, [], _∷_, _++_}
-use mathlib.Core.Logic.{inl, inr}
+use mathlib.Core.Logic.{inl}
 use Prim.Native.Nat.{ℕ}
 use Prim.Native.String.{String}
 use lib.IntN.{ℤ, pos, negsuc}
@@ -21,7 +20,7 @@ use Rattle.model.specs.Numbers.{decimal, text, moreDigits, natural, numb
 use Rattle.model.specs.Forms.{writeForm, byte, readForm}
 use Rattle.model.specs.Layouts.{writeLines, writeAll, readLines, readAll}
 use Rattle.model.specs.Sheets.{jobForm, plateForm, cellForm, reachForm, grainForm, edgeForm, endForm, tailLayout, layout, same, stated, edgeLines, sheetOf, joined, fit, ended, readSheet}
-use Rattle.model.specs.Strips.{Side, Strip, sideAt, strip, denominator, middle}
+use Rattle.model.specs.Strips.{Side, sideAt, strip, denominator, middle}
 use Rattle.model.specs.Trees.{pieces, tree}
 use Rattle.model.specs.Store.{flatten, forest, begins}
 use Rattle.model.specs.Roots.{rootBy, root}

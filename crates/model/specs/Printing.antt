@@ -1,7 +1,7 @@
 -- Document 01, "The job sheet": what the program writes for its standard input. Assumes nothing.
 use mathlib.Core.List.{List, [], _∷_, _++_}
 use Prim.Native.Nat.{ℕ, zero, suc}
-use lib.IntN.{ℤ, pos}
+use lib.IntN.{pos}
 use lib.ListN.{take, drop, replicate}
 use Rattle.model.specs.declared.Job.{Job}
 use Rattle.model.specs.Bytes.{bytes}

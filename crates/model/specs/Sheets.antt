@@ -1,5 +1,4 @@
 -- Document 01, "The job sheet": the sheet's lines, the job of a sheet and the sheet of a job. Assumes nothing.
-use mathlib.Core.Path.{_≡_}
 use mathlib.Core.Bool.{Bool, true, false}
 use mathlib.Core.List.{List, [], _∷_, _++_}
 use Prim.Native.Nat.{ℕ, zero, suc}
@@ -8,7 +7,7 @@ use lib.IntN.{ℤ, pos, negsuc}
 use lib.ListN.{length, getD, take, drop}
 use Rattle.model.specs.declared.Job.{Job}
 use Rattle.model.specs.Bytes.{bytes, given}
-use Rattle.model.specs.Layouts.{Section, section, Line, Lines, readAll, writeAll}
+use Rattle.model.specs.Layouts.{Section, section, Lines, readAll, writeAll}
 
 -- ---- the lines
 unfoldable pub jobForm : List ℕ

@@ -1,7 +1,7 @@
 -- Document 01, "The store": a job's trees as numbers, seven a node, in preorder. Assumes nothing.
 use mathlib.Core.Bool.{Bool, true, false, _&&_}
 use mathlib.Core.List.{List, [], _∷_, _++_}
-use Prim.Native.Nat.{ℕ, zero, suc, _+_, _*_}
+use Prim.Native.Nat.{ℕ, suc, _+_}
 use lib.IntN.{ℤ, pos}
 use Rattle.model.specs.declared.Job.{Job}
 use Rattle.model.specs.Jobs.{outline}

@@ -2,14 +2,14 @@
 use mathlib.Core.Path.{_≡_, sym, subst}
 use mathlib.Core.Bool.{true}
 use mathlib.Core.List.{List, [], _∷_}
-use Prim.Native.Nat.{ℕ, zero, suc, _+_, _*_, _≤_, _<_}
+use Prim.Native.Nat.{ℕ, zero, suc, _+_, _*_, _≤_}
 use native.Mathlib.Omega.{arith}
 use lib.Dec.{T, eqb→eq}
 use lib.IntN.{ℤ, pos, negsuc, natAbs}
 use lib.Signed.{leZ, nonNeg}
 use lib.ListN.{getD}
 use Rattle.model.specs.declared.Job.{Job}
-use Rattle.model.specs.Jobs.{between, coordinate, isZero, placed, counted, ranged, judge, Cubic, Edge, cubicAt, edgeAt, edgesFrom, outline}
+use Rattle.model.specs.Jobs.{between, coordinate, isZero, placed, counted, ranged, judge, cubicAt, edgeAt, edgesFrom, outline}
 use Rattle.model.specs.Store.{forest}
 use Rattle.ranges.specs.Legal.{both, le-of, all-passed, is-counted, is-ranged}
 use Rattle.ranges.specs.Sizes.{ControlSized, EachSized}

@@ -1,11 +1,11 @@
 -- Parts of a slice that are lent and come back: `&s[p..]`, `&mut s[p..]`, `&mut s[a..e]`. Assumes nothing.
-use mathlib.Core.Path.{_≡_, refl, _∙_, ap}
-use mathlib.Core.List.{List, [], _∷_, _++_, append-nil}
-use Prim.Native.Nat.{ℕ, _+_, _-_, _≤_, _<_}
+use mathlib.Core.Path.{_≡_}
+use mathlib.Core.List.{List, _++_, append-nil}
+use Prim.Native.Nat.{ℕ, _+_, _-_, _≤_}
 use native.Mathlib.Omega.{arith}
-use lib.ListN.{length, getD, take, drop, length-drop, List·getD-append}
-use lib.Seq.{take-all, drop-length, getD-append-add, length-take-le}
-use borrow.Rule.Slice.PartMut.{putMid, midOf, postOf, post-is}
+use lib.ListN.{length, take, drop, length-drop}
+use lib.Seq.{take-all, drop-length}
+use borrow.Rule.Slice.PartMut.{putMid, midOf, post-is}
 
 -- a part that runs to the end of its slice
 pub tail-mid : {X : Type 0} (p : ℕ) (l : List X) → midOf p (length l - p) l ≡ drop p l

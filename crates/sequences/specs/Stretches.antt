@@ -1,11 +1,10 @@
 -- A stretch of w places from place a on that is overwritten, every place with b: what stands in it, before it and after it. Assumes nothing.
-use mathlib.Core.Path.{_≡_, refl, ap, _∙_}
-use mathlib.Core.List.{List, [], _∷_, _++_}
-use Prim.Native.Nat.{ℕ, zero, suc, _+_, _-_, _≤_, _<_}
+use mathlib.Core.Path.{_≡_, ap, _∙_}
+use mathlib.Core.List.{List, _++_}
+use Prim.Native.Nat.{ℕ, _+_, _-_, _≤_, _<_}
 use native.Mathlib.Omega.{arith}
 use lib.ListN.{length, getD, take, drop, replicate, length-replicate, getD-replicate, List·getD-append}
 use lib.Seq.{getD-append-add, getD-take, getD-drop, length-take-le}
-use borrow.Rule.Slice.PartMut.{putMid, midOf, mid-len, post-is}
 
 module _ {A : Type 0} (d : A) where
   abbrev pub filled : List A → ℕ → ℕ → A → List A

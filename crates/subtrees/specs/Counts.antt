@@ -4,7 +4,7 @@ use mathlib.Core.Bool.{Bool, true, false, cond, _||_}
 use Prim.Native.Nat.{ℕ, _+_, _≤_}
 use native.Mathlib.Omega.{arith}
 use Rattle.model.specs.Strips.{Strip}
-use Rattle.model.specs.Trees.{Tree, long, node, isLong}
+use Rattle.model.specs.Trees.{Tree, node, isLong}
 use Rattle.model.specs.Store.{size}
 use Rattle.subtrees.specs.Preorder.{size-pos}
 

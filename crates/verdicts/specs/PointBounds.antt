@@ -17,7 +17,7 @@ use Rattle.model.specs.Jobs.{outline, edgesFrom, edgeAt, judge}
 use Rattle.model.specs.Strips.{Strip}
 use Rattle.model.specs.Trees.{Tree, leaf, long, node, tree, trees}
 use Rattle.model.specs.Store.{forest}
-use Rattle.model.specs.Fractions.{whole, Point, dist²}
+use Rattle.model.specs.Fractions.{Point, dist²}
 use Rattle.model.specs.Explore.{closest², farthest²}
 use Rattle.model.specs.Exact.{Points}
 use Rattle.model.specs.Distance.{spot, leaves, leavesAll, least, lo, hi, Some}

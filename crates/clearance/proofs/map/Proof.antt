@@ -1,4 +1,4 @@
-use mathlib.Core.Path.{_≡_, sym, ap, _∙_, subst}
+use mathlib.Core.Path.{sym, ap, _∙_, subst}
 use Rattle.model.specs.declared.Map.{Map}
 use Rattle.model.specs.Promises.{MapHolds}
 use Rattle.clearance.specs.Demands.{map-holds}

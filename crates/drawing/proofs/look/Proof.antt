@@ -1,6 +1,6 @@
 -- `drawing::look` meets its contract: the block's cell is handed to the walk over the open trees. Assumes nothing.
 use mathlib.Core.Path.{_≡_}
-use lib.IntN.{ℤ, pos, _*ℤ_}
+use lib.IntN.{pos, _*ℤ_}
 use mir.Syntax.{w64}
 use mir.Val.{toZ, ofZ}
 use Rattle.integers.specs.Signed.{read64}

@@ -1,6 +1,6 @@
 -- `strip_tests::beyond` meets its contract. Assumes nothing.
 use Rattle.integers.specs.Signed.{Made, called, arg, arg-pos, lit, times, minus, over, back, test-lt, above-zero}
-use lib.IntN.{ℤ, pos, natAbs, _-ℤ_, _*ℤ_}
+use lib.IntN.{pos, natAbs, _-ℤ_, _*ℤ_}
 use mathlib.Core.Path.{_≡_, _∙_, ap}
 use Prim.Native.Nat.{ℕ}
 use lib.Signed.{ltZ, quotZ, pos-natAbs}

@@ -1,7 +1,7 @@
 -- `strip_tests::judge` meets its contract. Assumes nothing.
 use Rattle.integers.specs.Signed.{Made, sized, arg, plus, back}
 use Rattle.strip_tests.proofs.Calls.{span-of, abs-of}
-use lib.IntN.{ℤ, _+ℤ_}
+use lib.IntN.{_+ℤ_}
 use mathlib.Core.Path.{_≡_, refl, _∙_, sym}
 use Rattle.integers.specs.Absolute.{absℤ}
 use mathlib.Core.Bool.{Bool, true, false, _||_}
