@@ -1,11 +1,11 @@
-// Asks of each stored sheet's job a fixed row of questions, a line for each answer: eight points of the job's own store, and one point of stores
-// that are longer, shorter or changed. The second implementation asks the same.
+// Asks a fixed row of questions of each stored sheet's job, a line for each answer: eight points given the job's own store, and one point given
+// stores that are longer, shorter or changed. The second implementation asks the same.
 use libc::STDOUT_FILENO;
 use model::Job;
 use model::Nearest;
 ghost use Prim.Native.Nat.{_≤_};
 
-// A bound as io prints it. No bound is negative; one that were would be told by a number that no bound reaches.
+// A bound as io prints it. No bound is negative; a negative one would show as a number that no bound reaches.
 fn printable(bound: i64) -> u64 {
     if bound < 0 { u64::MAX } else { bound as u64 }
 }
@@ -67,7 +67,7 @@ fn ask_changed(job: Job, store: &mut [i32], need: usize, at: usize) {
 
 // Stores of one number more, one less and none, and with the first, the middle and the last one changed.
 fn ask_stores(job: Job, store: &mut [i32], need: usize)
-    requires { ⌜ need ≤ 16380 ⌝ }
+    requires { ⌜ need ≤ 28672 ⌝ }
 {
     let last = one_less(need);
     ask(job, 3, 4, store, need + 1);
@@ -78,13 +78,14 @@ fn ask_stores(job: Job, store: &mut [i32], need: usize)
     ask_changed(job, store, need, last);
 }
 
-// The questions of a job, whose store is empty where its map is refused. A number more is there than the 16,380 that a job's trees may take.
+// The questions of a job. Trees of up to 4,096 nodes have room, more than the program lends, and one number is there behind them. A map that is
+// refused leaves the store empty.
 fn ask_job(job: Job) {
-    let mut space = [0i32; 16381];
+    let mut space = [0i32; 28673];
     let mut cells = [0u8; 65536];
     let store: &mut [i32] = &mut space;
     let done = clearance::map(job, store, &mut cells);
-    let need = 7 * case_files::least(done.nodes, 2340);
+    let need = 7 * case_files::least(done.nodes, 4096);
     ask_spots(job, store, need);
     ask_stores(job, store, need);
 }
