@@ -1,0 +1,37 @@
+use mathlib.Core.Path.{_≡_}
+use mathlib.Core.Bool.{Bool, true, false, cond}
+use Prim.Native.Nat.{ℕ, suc, _+_, _-_, _<_, _^_}
+use native.Mathlib.Omega.{arith}
+use borrow.Author.Needs.{needs}
+use borrow.Author.Tests.{ltb-true}
+use lib.Dec.{ltb}
+use lib.IntN.{ℤ, pos, negsuc, _+ℤ_}
+use lib.Signed.{ltZ, mag}
+use mir.Syntax.{w32}
+use mir.Val.{SFits}
+use mir.Facts.{toZ-ofZ}
+use Rattle.point_cases.proofs.one_up.Statement.{statement}
+use Rattle.point_cases.proofs.one_up.Tie as tie
+
+-- one more than a number below the largest fits
+up-fits : (z : ℤ) → mag z < 2 ^ 31 → ltZ z (pos 2147483647) ≡ true → SFits w32 (z +ℤ pos 1)
+up-fits (pos n) h e = record { sfits = omega (arith, ltb-true n 2147483647 e) }
+up-fits (negsuc n) h e = either (ltb 1 (suc n)) (suc n - 2) (1 - suc n) (omega arith) (omega arith)
+  where
+    either : (t : Bool) (x y : ℕ) → x < 2 ^ 31 → y < 2 ^ 31 → SFits w32 (cond t (negsuc x) (pos y))
+    either true x y p q = record { sfits = omega arith }
+    either false x y p q = record { sfits = omega arith }
+
+add-result : tie.Need-add-result
+add-result c =
+    let f = c .before .fits .number in
+    rw (toZ-ofZ f) (up-fits (c .before .args .number) (f .sfits) (rw (toZ-ofZ f) at (c .if1 .taken)))
+
+returns : tie.Need-returns
+returns c = search needs
+
+returns-2 : tie.Need-returns-2
+returns-2 c = search needs
+
+pub one-up-spec : {M : Type 1} → statement M
+one-up-spec = tie.close (tie.spec add-result returns returns-2)
