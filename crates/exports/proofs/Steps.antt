@@ -49,12 +49,20 @@ unfolding accepted
 same zero = refl
 same (suc n) = refl
 
+kept : (b : Bool) (front old : List ℤ) → b ≡ false → old ≡ cond b front old
+kept true front old e = cc
+kept false front old e = refl
+
+changed : (b : Bool) (front old : List ℤ) → b ≡ true → front ≡ cond b front old
+changed true front old e = refl
+changed false front old e = cc
+
 pub no-room : (sheet : List ℕ) (row : List ℤ) (r : Read) → r ≡ entries.read sheet → length row < 519 → r .refusal ≡ 0 → (7 ≡ readRefusal sheet row) × (row ≡ readLeaves sheet row)
 unfolding readRefusal readLeaves
 no-room sheet row r e h z =
     let t : leb 519 (length row) ≡ false = lt-leb 519 (length row) h in (
       sym (none (entries.read sheet .refusal) _ _ (ap (λ (q : Read). q .refusal) (sym e) ∙ z) ∙ ap (λ (b : Bool). cond b 0 7) t),
-      sym (ap (λ (b : Bool). cond b (numbersOf (entries.read sheet .job) ++ drop 519 row) row) t),
+      kept (leb 519 (length row)) _ row t,
     )
 
 pub refused : (sheet : List ℕ) (row : List ℤ) (r : Read) → r ≡ entries.read sheet → length row < 519 → (r .refusal ≡ 0 → ⊥) → (r .refusal ≡ readRefusal sheet row) × (row ≡ readLeaves sheet row)
@@ -63,7 +71,7 @@ refused sheet row r e h z =
     let t : leb 519 (length row) ≡ false = lt-leb 519 (length row) h in
     let f = ap (λ (q : Read). q .refusal) e in (
       f ∙ sym (some (entries.read sheet .refusal) _ _ (λ k. z (f ∙ k))),
-      sym (ap (λ (b : Bool). cond b (numbersOf (entries.read sheet .job) ++ drop 519 row) row) t),
+      kept (leb 519 (length row)) _ row t,
     )
 
 pub room : (sheet : List ℕ) (row after : List ℤ) (r : Read) → r ≡ entries.read sheet → 519 ≤ length row → after ≡ numbersOf (r .job) ++ drop 519 row → (r .refusal ≡ readRefusal sheet row) × (after ≡ readLeaves sheet row)
@@ -71,7 +79,7 @@ unfolding readRefusal readLeaves
 room sheet row after r e h w =
     let t : leb 519 (length row) ≡ true = le-leb 519 (length row) h in (
       ap (λ (q : Read). q .refusal) e ∙ sym (ap (λ (b : Bool). accepted (entries.read sheet .refusal) (cond b 0 7) (entries.read sheet .refusal)) t ∙ same (entries.read sheet .refusal)),
-      w ∙ ap (λ (q : Read). numbersOf (q .job) ++ drop 519 row) e ∙ sym (ap (λ (b : Bool). cond b (numbersOf (entries.read sheet .job) ++ drop 519 row) row) t),
+      w ∙ ap (λ (q : Read). numbersOf (q .job) ++ drop 519 row) e ∙ changed (leb 519 (length row)) (numbersOf (entries.read sheet .job) ++ drop 519 row) row t,
     )
 
 -- ---- writing and drawing: the job is that of the row
