@@ -18,8 +18,13 @@
  * Memory that a function writes overlaps nothing else that it is given. What
  * is lent as const is only read. A refused call changes nothing in `out`,
  * `store` and `cells`. An accepted call writes from their start on and changes
- * nothing past what it writes. `job` of clearance_read, `bytes`, `nodes` and
- * `nearest` are written by every call, also by a refused one.
+ * nothing past what it writes. `bytes`, `nodes` and `nearest` are written by
+ * every call, also by a refused one, and so is `job` of clearance_read where it
+ * has room for a job.
+ *
+ * Jobs. A job is lent as a row of CLEARANCE_JOB_NUMBERS numbers and the row's
+ * length. Numbers that a shorter row lacks are taken as 0, and of a longer row
+ * only the first 519 are looked at.
  */
 #ifndef CLEARANCE_H
 #define CLEARANCE_H
@@ -50,7 +55,8 @@ enum {
     CLEARANCE_LONG = 5,
     /* "store": `store` is too short for the trees. From map and point. */
     CLEARANCE_STORE = 6,
-    /* "space": `out` or `cells` is too short. From write and map. */
+    /* "space": `job` that is read into, `out` or `cells` is too short. From
+     * read, write and map. */
     CLEARANCE_SPACE = 7,
     /* "stranger": `store` does not begin with the trees of this job. From
      * point. */
@@ -137,23 +143,25 @@ enum {
  * Reads a job sheet.
  *
  * sheet, sheet_len  the bytes of the sheet; at most 8192 can be accepted
- * job               written by every call: the job, or all zeros where refused
+ * job, job_len      of 519 numbers or more the first 519 are written by every
+ *                   call: the job, or all zeros where the sheet is refused. Of
+ *                   fewer none is written
  *
- * Returns 0, or CLEARANCE_FORM, _EDGES, _RANGE or _CELL.
+ * Returns 0, or CLEARANCE_FORM, _EDGES, _RANGE, _CELL or _SPACE.
  */
 uint8_t clearance_read(const uint8_t *sheet, size_t sheet_len,
-                       int32_t job[CLEARANCE_JOB_NUMBERS]);
+                       int32_t *job, size_t job_len);
 
 /*
  * Writes the sheet of a job. The grain line is left out where the grain is 10.
  *
- * job           any numbers
+ * job, job_len  any numbers
  * out, out_len  the sheet is written to the start; 5645 bytes are always enough
  * bytes         written by every call: the sheet's length, or 0 where refused
  *
  * Returns 0, or CLEARANCE_EDGES, _RANGE, _CELL or _SPACE.
  */
-uint8_t clearance_write(const int32_t job[CLEARANCE_JOB_NUMBERS],
+uint8_t clearance_write(const int32_t *job, size_t job_len,
                         uint8_t *out, size_t out_len, size_t *bytes);
 
 /*
@@ -161,7 +169,7 @@ uint8_t clearance_write(const int32_t job[CLEARANCE_JOB_NUMBERS],
  * 2^(N - M) cells a side, one letter a cell: rows from the lowest y upward, in a
  * row from the lowest x on, nothing between rows.
  *
- * job               any numbers
+ * job, job_len      any numbers
  * store, store_len  the trees are written to the start, seven numbers a node:
  *                   a node, its left half's subtree, its right half's; the
  *                   edges in the order of the job. 917056 numbers are always
@@ -173,14 +181,14 @@ uint8_t clearance_write(const int32_t job[CLEARANCE_JOB_NUMBERS],
  *
  * Returns 0, or CLEARANCE_EDGES, _RANGE, _CELL, _LONG, _STORE or _SPACE.
  */
-uint8_t clearance_map(const int32_t job[CLEARANCE_JOB_NUMBERS],
+uint8_t clearance_map(const int32_t *job, size_t job_len,
                       int32_t *store, size_t store_len,
                       uint8_t *cells, size_t cells_len, size_t *nodes);
 
 /*
  * Bounds the distance of a point from the outline.
  *
- * job               any numbers
+ * job, job_len      any numbers
  * x, y              the point; out of -1000000 to 1000000 it is refused as range
  * store, store_len  begins with the trees of this job, as a map call left them;
  *                   what follows the trees does not matter
@@ -189,7 +197,7 @@ uint8_t clearance_map(const int32_t job[CLEARANCE_JOB_NUMBERS],
  *
  * Returns 0, or CLEARANCE_EDGES, _RANGE, _CELL, _LONG, _STORE or _STRANGER.
  */
-uint8_t clearance_point(const int32_t job[CLEARANCE_JOB_NUMBERS],
+uint8_t clearance_point(const int32_t *job, size_t job_len,
                         int32_t x, int32_t y,
                         const int32_t *store, size_t store_len,
                         int64_t nearest[CLEARANCE_NEAREST_NUMBERS]);

@@ -26,10 +26,17 @@ mod symbols {
     use super::{JobNumbers, JOB_NUMBERS};
 
     extern "C" {
-        fn clearance_read(sheet: *const u8, sheet_len: usize, job: *mut i32) -> u8;
-        fn clearance_write(job: *const i32, out: *mut u8, out_len: usize, bytes: *mut usize) -> u8;
+        fn clearance_read(sheet: *const u8, sheet_len: usize, job: *mut i32, job_len: usize) -> u8;
+        fn clearance_write(
+            job: *const i32,
+            job_len: usize,
+            out: *mut u8,
+            out_len: usize,
+            bytes: *mut usize,
+        ) -> u8;
         fn clearance_map(
             job: *const i32,
+            job_len: usize,
             store: *mut i32,
             store_len: usize,
             cells: *mut u8,
@@ -38,6 +45,7 @@ mod symbols {
         ) -> u8;
         fn clearance_point(
             job: *const i32,
+            job_len: usize,
             x: i32,
             y: i32,
             store: *const i32,
@@ -49,16 +57,22 @@ mod symbols {
     /// Reads a sheet into a job, which a refusal leaves as zeros.
     pub fn read(sheet: &[u8], job: &mut JobNumbers) -> u8 {
         // The symbol reads the sheet's bytes and writes all the job's numbers.
-        unsafe { clearance_read(sheet.as_ptr(), sheet.len(), job.as_mut_ptr()) }
+        unsafe { clearance_read(sheet.as_ptr(), sheet.len(), job.as_mut_ptr(), JOB_NUMBERS) }
     }
 
     /// Writes a sheet; also the bytes written.
     pub fn write(job: &JobNumbers, out: &mut [u8]) -> (u8, usize) {
-        const { assert!(JOB_NUMBERS == 519) }
         let mut bytes = 0;
-        // The symbol reads 519 numbers and writes within the lent length.
-        let refusal =
-            unsafe { clearance_write(job.as_ptr(), out.as_mut_ptr(), out.len(), &mut bytes) };
+        // The symbol reads the job's numbers and writes within the lent length.
+        let refusal = unsafe {
+            clearance_write(
+                job.as_ptr(),
+                JOB_NUMBERS,
+                out.as_mut_ptr(),
+                out.len(),
+                &mut bytes,
+            )
+        };
         (refusal, bytes)
     }
 
@@ -69,6 +83,7 @@ mod symbols {
         let refusal = unsafe {
             clearance_map(
                 job.as_ptr(),
+                JOB_NUMBERS,
                 store.as_mut_ptr(),
                 store.len(),
                 cells.as_mut_ptr(),
@@ -86,6 +101,7 @@ mod symbols {
         let refusal = unsafe {
             clearance_point(
                 job.as_ptr(),
+                JOB_NUMBERS,
                 x,
                 y,
                 store.as_ptr(),

@@ -22,10 +22,12 @@ int main(void)
 {
     int32_t job[CLEARANCE_JOB_NUMBERS];
     size_t nodes, side, row;
-    uint8_t refusal = clearance_read((const uint8_t *)sheet, strlen(sheet), job);
+    uint8_t refusal = clearance_read((const uint8_t *)sheet, strlen(sheet),
+                                     job, CLEARANCE_JOB_NUMBERS);
 
     if (refusal == CLEARANCE_ACCEPTED)
-        refusal = clearance_map(job, store, sizeof store / sizeof store[0],
+        refusal = clearance_map(job, CLEARANCE_JOB_NUMBERS,
+                                store, sizeof store / sizeof store[0],
                                 cells, sizeof cells, &nodes);
     if (refusal != CLEARANCE_ACCEPTED) {
         printf("(refused %d)\n", refusal);

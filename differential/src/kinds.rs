@@ -32,9 +32,19 @@ const fn kind(
 
 /// All of them.
 pub const KINDS: [Kind; 16] = [
-    kind("sheets of legal jobs", 8, &[0], read_case::legal),
-    kind("sheets of odd numbers", 16, &[0, 2, 3, 4], read_case::odd),
-    kind("sheets damaged", 32, &[0, 1, 2, 3, 4], read_case::damaged),
+    kind("sheets of legal jobs", 8, &[0, 7], read_case::legal),
+    kind(
+        "sheets of odd numbers",
+        16,
+        &[0, 2, 3, 4, 7],
+        read_case::odd,
+    ),
+    kind(
+        "sheets damaged",
+        32,
+        &[0, 1, 2, 3, 4, 7],
+        read_case::damaged,
+    ),
     kind("sheets by length", 8, &[0, 1, 2], read_case::lengths),
     kind("written legal jobs", 8, &[0, 7], write_case::legal),
     kind(
@@ -43,7 +53,7 @@ pub const KINDS: [Kind; 16] = [
         &[0, 2, 3, 4, 7],
         write_case::illegal,
     ),
-    kind("maps drawn", 24, &[0, 5], map_case::drawn),
+    kind("maps drawn", 24, &[0, 2, 5], map_case::drawn),
     kind("maps at ties", 10, &[0], map_case::tied),
     kind("maps of many edges", 3, &[0], map_case::crowded),
     kind("maps by length", 8, &[0, 5, 6, 7], map_case::lengths),
@@ -53,7 +63,7 @@ pub const KINDS: [Kind; 16] = [
         &[2, 3, 4, 5, 6, 7],
         map_case::illegal,
     ),
-    kind("points answered", 8, &[0, 5], point_case::answered),
+    kind("points answered", 8, &[0, 2, 5], point_case::answered),
     kind("points by store", 10, &[0, 5, 6, 8], point_case::stores),
     kind(
         "points of odd jobs",

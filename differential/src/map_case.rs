@@ -5,6 +5,7 @@ use crate::jobs::{crowded_job, sketch_job, tuned_job};
 use crate::lent::Lent;
 use crate::numbers::{describe, reference_job, Numbers, COUNT, M, N};
 use crate::random::Random;
+use crate::rows::Row;
 use crate::spoiling::spoil;
 use crate::stores::right_numbers;
 use crate::tally::Tally;
@@ -16,8 +17,8 @@ type Lengths = (usize, usize);
 
 /// Maps a job with both and compares everything.
 pub fn compare(job: &Numbers, lengths: Lengths, salt: u64, tally: &mut Tally) -> Result<(), Fault> {
-    let lent_job = Lent::holding(job, salt);
-    let given = lent_job.clone();
+    let Row { lent: row, job } = Row::of(job, salt);
+    let given = row.clone();
     let mut store = Lent::marked(lengths.0, salt ^ 1);
     let mut wanted_store = store.clone();
     let mut cells = Lent::marked(lengths.1, salt ^ 2);
@@ -27,7 +28,8 @@ pub fn compare(job: &Numbers, lengths: Lengths, salt: u64, tally: &mut Tally) ->
     // SAFETY: all are as long as the call is told, and apart.
     let number = unsafe {
         ffi::clearance_map(
-            lent_job.pointer(),
+            row.pointer(),
+            row.length(),
             store.pointer_mut(),
             lengths.0,
             cells.pointer_mut(),
@@ -37,7 +39,7 @@ pub fn compare(job: &Numbers, lengths: Lengths, salt: u64, tally: &mut Tally) ->
     };
 
     let result = clearance_reference::map(
-        &reference_job(job),
+        &reference_job(&job),
         wanted_store.part_mut(),
         wanted_cells.part_mut(),
     );
@@ -48,13 +50,12 @@ pub fn compare(job: &Numbers, lengths: Lengths, salt: u64, tally: &mut Tally) ->
         .memory("nodes", &nodes, &wanted_nodes)
         .memory("store", &store, &wanted_store)
         .memory("cells", &cells, &wanted_cells)
-        .memory("job", &lent_job, &given)
+        .memory("job", &row, &given)
         .finish(|| {
             let (numbers, bytes) = lengths;
-            format!(
-                "map to {numbers} numbers and {bytes} bytes of {}",
-                describe(job)
-            )
+            let long = row.length();
+            let job = describe(&job);
+            format!("map to {numbers} numbers and {bytes} bytes, row of {long}, {job}")
         })
 }
 

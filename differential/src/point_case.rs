@@ -6,6 +6,7 @@ use crate::jobs::{sketch_job, tuned_job};
 use crate::lent::Lent;
 use crate::numbers::{describe, reference_job, Numbers};
 use crate::random::Random;
+use crate::rows::Row;
 use crate::spoiling::spoil;
 use crate::spots::{odd_spot, spot_in_range};
 use crate::stores::{changed_store, others_store, right_numbers, right_store, short_store};
@@ -21,15 +22,16 @@ pub fn compare(
     salt: u64,
     tally: &mut Tally,
 ) -> Result<(), Fault> {
-    let lent_job = Lent::holding(job, salt);
-    let given_job = lent_job.clone();
+    let Row { lent: row, job } = Row::of(job, salt);
+    let given_row = row.clone();
     let given_store = store.clone();
     let mut nearest = Lent::marked(3, salt ^ 1);
     let mut wanted = nearest.clone();
     // SAFETY: all are as long as the call is told, and apart.
     let number = unsafe {
         ffi::clearance_point(
-            lent_job.pointer(),
+            row.pointer(),
+            row.length(),
             x,
             y,
             store.pointer(),
@@ -38,10 +40,10 @@ pub fn compare(
         )
     };
 
-    let result = clearance_reference::point(&reference_job(job), x, y, given_store.part());
+    let result = clearance_reference::point(&reference_job(&job), x, y, given_store.part());
     let answer = result.map_or([0; 3], |n| {
         let named = nearest.part()[2];
-        let fits = attains(job, named, [x, y], n.hi);
+        let fits = attains(&job, named, [x, y], n.hi);
         [n.lo, n.hi, if fits { named } else { n.edge as i64 }]
     });
     wanted.part_mut().copy_from_slice(&answer);
@@ -50,10 +52,11 @@ pub fn compare(
         .value("refusal", number, number_of(&result))
         .memory("nearest", &nearest, &wanted)
         .memory("store", store, &given_store)
-        .memory("job", &lent_job, &given_job)
+        .memory("job", &row, &given_row)
         .finish(|| {
             let numbers = given_store.length();
-            format!("point {x} {y} of {numbers} numbers of {}", describe(job))
+            let (long, job) = (row.length(), describe(&job));
+            format!("point {x} {y} of a store of {numbers}, row of {long}, {job}")
         })
 }
 

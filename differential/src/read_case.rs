@@ -8,25 +8,54 @@ use crate::random::Random;
 use crate::sheets::{legal_sheet, odd_sheet, sheet_of_length};
 use crate::tally::Tally;
 use clearance::ffi;
-use clearance_reference::{Job, SHEET_LIMIT};
+use clearance_reference::{Job, Refusal, SHEET_LIMIT};
 
 /// Reads a lent sheet with both and compares everything.
 fn compare(sheet: &Lent<u8>, salt: u64, tally: &mut Tally) -> Result<(), Fault> {
     let given = sheet.clone();
-    let mut job = Lent::marked(clearance::JOB_NUMBERS, salt);
+    let length = row_length(salt);
+    let mut job = Lent::marked(length, salt);
     let mut wanted = job.clone();
     // SAFETY: both are as long as the call is told, and apart.
-    let number = unsafe { ffi::clearance_read(sheet.pointer(), sheet.length(), job.pointer_mut()) };
+    let number =
+        unsafe { ffi::clearance_read(sheet.pointer(), sheet.length(), job.pointer_mut(), length) };
 
     let result = clearance_reference::read(given.part());
     let numbers = numbers_of(result.as_ref().unwrap_or(&Job::ZERO));
-    wanted.part_mut().copy_from_slice(&numbers);
-    tally.note(number_of(&result));
+    let has_room = length >= numbers.len();
+    if has_room {
+        wanted.part_mut()[..numbers.len()].copy_from_slice(&numbers);
+    }
+    let wanted_number = match number_of(&result) {
+        0 if !has_room => Refusal::Space.number(),
+        number => number,
+    };
+    tally.note(wanted_number);
     Comparison::default()
-        .value("refusal", number, number_of(&result))
+        .value("refusal", number, wanted_number)
         .memory("job", &job, &wanted)
         .memory("sheet", sheet, &given)
-        .finish(|| describe(given.part()))
+        .finish(|| format!("{} into {length} numbers", describe(given.part())))
+}
+
+/// The numbers lent for the job: most often just enough.
+fn row_length(salt: u64) -> usize {
+    const NEED: usize = clearance::JOB_NUMBERS;
+    let mut random = Random::new(salt, 0);
+    match random.below(4) {
+        0 => random.choose(&[
+            0,
+            1,
+            7,
+            8 * 64,
+            NEED - 1,
+            NEED - 1,
+            NEED + 1,
+            NEED + 1,
+            NEED + 300,
+        ]),
+        _ => NEED,
+    }
 }
 
 /// A sheet in few words: its length and its first bytes.

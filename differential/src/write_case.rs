@@ -5,14 +5,15 @@ use crate::jobs::sketch_job;
 use crate::lent::Lent;
 use crate::numbers::{describe, reference_job, Numbers};
 use crate::random::Random;
+use crate::rows::Row;
 use crate::spoiling::spoil;
 use crate::tally::Tally;
 use clearance::ffi;
 
 /// Writes a job's sheet with both and compares everything.
 pub fn compare(job: &Numbers, length: usize, salt: u64, tally: &mut Tally) -> Result<(), Fault> {
-    let lent_job = Lent::holding(job, salt);
-    let given = lent_job.clone();
+    let Row { lent: row, job } = Row::of(job, salt);
+    let given = row.clone();
     let mut out = Lent::marked(length, salt ^ 1);
     let mut wanted_out = out.clone();
     let mut bytes = Lent::marked(1, salt ^ 2);
@@ -20,22 +21,29 @@ pub fn compare(job: &Numbers, length: usize, salt: u64, tally: &mut Tally) -> Re
     // SAFETY: all are as long as the call is told, and apart.
     let number = unsafe {
         ffi::clearance_write(
-            lent_job.pointer(),
+            row.pointer(),
+            row.length(),
             out.pointer_mut(),
             length,
             bytes.pointer_mut(),
         )
     };
 
-    let result = clearance_reference::write(&reference_job(job), wanted_out.part_mut());
+    let result = clearance_reference::write(&reference_job(&job), wanted_out.part_mut());
     wanted_bytes.part_mut()[0] = result.unwrap_or(0);
     tally.note(number_of(&result));
     Comparison::default()
         .value("refusal", number, number_of(&result))
         .memory("bytes", &bytes, &wanted_bytes)
         .memory("out", &out, &wanted_out)
-        .memory("job", &lent_job, &given)
-        .finish(|| format!("write to {length} bytes of {}", describe(job)))
+        .memory("job", &row, &given)
+        .finish(|| {
+            let numbers = row.length();
+            format!(
+                "write to {length} bytes, row of {numbers}, {}",
+                describe(&job)
+            )
+        })
 }
 
 /// Legal jobs, with every length about the one needed.

@@ -2,7 +2,7 @@
 //! written apart from all else, so there is nothing left to check.
 
 use crate::ffi;
-use crate::job::Job;
+use crate::job::{Job, JOB_NUMBERS};
 use crate::nearest::Nearest;
 use crate::refusal::Refusal;
 
@@ -20,7 +20,8 @@ use crate::refusal::Refusal;
 pub fn read(sheet: &[u8]) -> Result<Job, Refusal> {
     let mut job = Job::ZERO;
     // SAFETY: a slice and a job of its own, see the head of this file.
-    let number = unsafe { ffi::clearance_read(sheet.as_ptr(), sheet.len(), job.as_mut_ptr()) };
+    let number =
+        unsafe { ffi::clearance_read(sheet.as_ptr(), sheet.len(), job.as_mut_ptr(), JOB_NUMBERS) };
     Refusal::check(number)?;
     Ok(job)
 }
@@ -43,8 +44,15 @@ pub fn read(sheet: &[u8]) -> Result<Job, Refusal> {
 pub fn write(job: &Job, out: &mut [u8]) -> Result<usize, Refusal> {
     let mut bytes = 0;
     // SAFETY: a job, a slice and a number of its own, see the head of this file.
-    let number =
-        unsafe { ffi::clearance_write(job.as_ptr(), out.as_mut_ptr(), out.len(), &raw mut bytes) };
+    let number = unsafe {
+        ffi::clearance_write(
+            job.as_ptr(),
+            JOB_NUMBERS,
+            out.as_mut_ptr(),
+            out.len(),
+            &raw mut bytes,
+        )
+    };
     Refusal::check(number)?;
     Ok(bytes)
 }
@@ -72,6 +80,7 @@ pub fn map(job: &Job, store: &mut [i32], cells: &mut [u8]) -> Result<usize, Refu
     let number = unsafe {
         ffi::clearance_map(
             job.as_ptr(),
+            JOB_NUMBERS,
             store.as_mut_ptr(),
             store.len(),
             cells.as_mut_ptr(),
@@ -102,6 +111,7 @@ pub fn point(job: &Job, x: i32, y: i32, store: &[i32]) -> Result<Nearest, Refusa
     let number = unsafe {
         ffi::clearance_point(
             job.as_ptr(),
+            JOB_NUMBERS,
             x,
             y,
             store.as_ptr(),

@@ -2,32 +2,44 @@
 //! callers that want what a refused call leaves. All others take the safe
 //! functions of the crate.
 //!
-//! A job is a pointer to [`JOB_NUMBERS`](crate::JOB_NUMBERS) numbers, a slice a
-//! pointer and its length. The number returned is 0 or a refusal's.
+//! A slice is a pointer and its length. A job is a row of
+//! [`JOB_NUMBERS`](crate::JOB_NUMBERS) numbers; those that a shorter row lacks
+//! are taken as 0, and past a longer one's first 519 nothing is looked at. The
+//! number returned is 0 or a refusal's.
 
 extern "C" {
-    /// Reads a sheet; the job is written by every call.
+    /// Reads a sheet. The first 519 numbers of `job` are written by every call;
+    /// if it has fewer none is, and a sheet that is not refused by itself is
+    /// refused with 7.
     ///
     /// # Safety
-    /// `sheet` holds `sheet_len` bytes and `job` 519 numbers to write. No
-    /// pointer is null, and what is written overlaps nothing else.
-    pub fn clearance_read(sheet: *const u8, sheet_len: usize, job: *mut i32) -> u8;
+    /// `sheet` holds `sheet_len` bytes and `job` has `job_len` numbers to write.
+    /// No pointer is null, and what is written overlaps nothing else.
+    pub fn clearance_read(sheet: *const u8, sheet_len: usize, job: *mut i32, job_len: usize) -> u8;
 
     /// Writes a job's sheet; `bytes` is written by every call.
     ///
     /// # Safety
-    /// `job` holds 519 numbers, `out` has `out_len` bytes to write and `bytes`
-    /// one number. No pointer is null, and what is written overlaps nothing else.
-    pub fn clearance_write(job: *const i32, out: *mut u8, out_len: usize, bytes: *mut usize) -> u8;
+    /// `job` holds `job_len` numbers, `out` has `out_len` bytes to write and
+    /// `bytes` one number. No pointer is null, and what is written overlaps
+    /// nothing else.
+    pub fn clearance_write(
+        job: *const i32,
+        job_len: usize,
+        out: *mut u8,
+        out_len: usize,
+        bytes: *mut usize,
+    ) -> u8;
 
     /// Builds the trees and draws the map; `nodes` is written by every call.
     ///
     /// # Safety
-    /// `job` holds 519 numbers, `store` has `store_len` numbers to write, `cells`
-    /// `cells_len` bytes and `nodes` one number. No pointer is null, and what is
-    /// written overlaps nothing else.
+    /// `job` holds `job_len` numbers, `store` has `store_len` numbers to write,
+    /// `cells` `cells_len` bytes and `nodes` one number. No pointer is null, and
+    /// what is written overlaps nothing else.
     pub fn clearance_map(
         job: *const i32,
+        job_len: usize,
         store: *mut i32,
         store_len: usize,
         cells: *mut u8,
@@ -38,11 +50,11 @@ extern "C" {
     /// Bounds a point's distance; the three numbers are written by every call.
     ///
     /// # Safety
-    /// `job` holds 519 numbers, `store` has `store_len` of them and `nearest`
-    /// three to write. No pointer is null, and what is written overlaps nothing
-    /// else.
+    /// `job` holds `job_len` numbers, `store` `store_len`, and `nearest` has three
+    /// to write. No pointer is null, and what is written overlaps nothing else.
     pub fn clearance_point(
         job: *const i32,
+        job_len: usize,
         x: i32,
         y: i32,
         store: *const i32,

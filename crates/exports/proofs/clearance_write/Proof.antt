@@ -1,0 +1,23 @@
+use Rattle.exports.proofs.Steps as steps
+use borrow.Author.Needs.{needs}
+use Rattle.exports.proofs.clearance_write.Statement.{statement}
+use Rattle.exports.proofs.clearance_write.Tie as tie
+
+job-from-requires : tie.Need-job-from-requires
+job-from-requires c κs = search needs
+
+write-requires : tie.Need-write-requires
+write-requires c κs = search needs
+
+same-length : tie.Need-same-length
+same-length c = search needs
+
+returns : tie.Need-returns
+returns c =
+    let s = c .before .before .before .before .before .before in
+    let j = c .before .before .before .before .job-from in
+    let w = c .before .before .write in
+    steps.written (s .args .job .now) (j .result) (j .ensures) (s .args .out .now) _ (w .result) (w .ensures .0) (w .ensures .1)
+
+pub clearance-write-spec : {M : Type 1} → statement M
+clearance-write-spec = tie.close (tie.spec job-from-requires write-requires same-length returns)

@@ -1,0 +1,91 @@
+// The library's face for callers in C and Rust: the four entries over numbers, slices and pointers. A job is a row of 519 numbers; of a row
+// that is shorter the missing numbers are 0, and of one that is longer the rest is not looked at. None asks anything of its caller.
+ghost use mathlib.Core.Path.{_≡_};
+ghost use mathlib.Core.List.{[], _∷_};
+ghost use Prim.Native.Nat.{_<_};
+ghost use lib.IntN.{ℤ, pos};
+ghost use Rattle.model.specs.Entries as entries;
+ghost use Rattle.model.specs.Promises.{MapHolds};
+ghost use Rattle.flat_jobs.specs.FlatJobs.{jobFrom};
+ghost use Rattle.exports.specs.Rows.{readRefusal, readLeaves, Answered};
+
+// Reads a sheet into the front of `job`: 0, or the sheet's refusal 1, 2, 3 or 4, or 7 where `job` has no room for 519 numbers.
+#[no_mangle]
+pub extern "C" fn clearance_read(sheet: &[u8], job: &mut [i32]) -> u8
+    ensures refusal { λ r. ⌜ r ≡ readRefusal (now (sheet .entry)) (now (job .entry)) ⌝ }
+    ensures row { λ _. ⌜ now (job .exit) ≡ readLeaves (now (sheet .entry)) (now (job .entry)) ⌝ }
+{
+    let read = clearance::read(sheet);
+    let refusal = read.refusal;
+    if job.len() < 519 {
+        if refusal == 0 {
+            return 7;
+        }
+        return refusal;
+    }
+    let found = read.job;
+    flat_jobs::put_job(found, job);
+    refusal
+}
+
+// Writes a job's sheet at the front of `out`: 0 and how many bytes, or the refusal 2, 3, 4 or 7 and no bytes.
+#[no_mangle]
+pub extern "C" fn clearance_write(job: &[i32], out: &mut [u8], bytes: &mut usize) -> u8
+    ensures refusal { λ r. ⌜ r ≡ entries.write (jobFrom (now (job .entry))) (now (out .entry)) .refusal ⌝ }
+    ensures count { λ _. ⌜ now (bytes .exit) ≡ entries.write (jobFrom (now (job .entry))) (now (out .entry)) .bytes ⌝ }
+    ensures lent { λ _. ⌜ now (out .exit) ≡ entries.writeLeaves (jobFrom (now (job .entry))) (now (out .entry)) ⌝ }
+{
+    let given = flat_jobs::job_from(job);
+    let written = clearance::write(given, out);
+    *bytes = written.bytes;
+    written.refusal
+}
+
+// Draws a job's map at the front of `cells`, with its trees at the front of `store`: 0 and how many nodes they have, or the refusal 2 to 7
+// and no nodes.
+#[no_mangle]
+pub extern "C" fn clearance_map(
+    job: &[i32],
+    store: &mut [i32],
+    cells: &mut [u8],
+    nodes: &mut usize,
+) -> u8
+    ensures refusal { λ r. ⌜ r ≡ entries.map (jobFrom (now (job .entry))) (now (store .entry)) (now (cells .entry)) .refusal ⌝ }
+    ensures count { λ _. ⌜ now (nodes .exit) ≡ entries.map (jobFrom (now (job .entry))) (now (store .entry)) (now (cells .entry)) .nodes ⌝ }
+    ensures trees { λ _. ⌜ now (store .exit) ≡ entries.mapStore (jobFrom (now (job .entry))) (now (store .entry)) (now (cells .entry)) ⌝ }
+    ensures letters { λ _. ⌜ now (cells .exit) ≡ entries.mapCells (jobFrom (now (job .entry))) (now (store .entry)) (now (cells .entry)) ⌝ }
+    ensures demand3 { λ r. ⌜ (r ≡ 0 → MapHolds (jobFrom (now (job .entry))) (now (cells .exit))) ⌝ }
+{
+    let given = flat_jobs::job_from(job);
+    let map = clearance::map(given, store, cells);
+    *nodes = map.nodes;
+    map.refusal
+}
+
+fn edge_number(edge: usize) -> i64
+    requires { ⌜ edge < 64 ⌝ }
+    ensures number { λ r. ⌜ r ≡ pos edge ⌝ }
+{
+    edge as i64
+}
+
+// Bounds a point's squared distance from a job's outline: 0 and the two bounds with an edge that attains the upper one, or the refusal 2, 3,
+// 4, 5, 6 or 8 and zeros.
+#[no_mangle]
+pub extern "C" fn clearance_point(
+    job: &[i32],
+    x: i32,
+    y: i32,
+    store: &[i32],
+    nearest: &mut [i64; 3],
+) -> u8
+    ensures answer { λ r. ⌜ Answered (jobFrom (now (job .entry))) x y (now (store .entry)) r (now (nearest .exit)) ⌝ }
+{
+    let given = flat_jobs::job_from(job);
+    let found = clearance::point(given, x, y, store);
+    let lo = found.lo;
+    let hi = found.hi;
+    let edge = edge_number(found.edge);
+    *nearest = [lo, hi, edge];
+    found.refusal
+}
