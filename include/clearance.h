@@ -16,11 +16,9 @@
  * Lent memory. A pointer is never null, not even with the length 0, is aligned
  * for its type and has at least as many numbers or bytes as its length says.
  * Memory that a function writes overlaps nothing else that it is given. What
- * is lent as const is only read. A refused call changes nothing in `out`,
- * `store` and `cells`. An accepted call writes from their start on and changes
- * nothing past what it writes. `bytes`, `nodes` and `nearest` are written by
- * every call, also by a refused one, and so is `job` of clearance_read where it
- * has room for a job.
+ * is lent as const is only read. A refused call changes nothing that it is
+ * lent. An accepted call writes from the start of `job`, `out`, `store` or
+ * `cells` on and changes nothing past what it writes.
  *
  * Jobs. A job is lent as a row of CLEARANCE_JOB_NUMBERS numbers and the row's
  * length. Numbers that a shorter row lacks are taken as 0, and of a longer row
@@ -143,9 +141,8 @@ enum {
  * Reads a job sheet.
  *
  * sheet, sheet_len  the bytes of the sheet; at most 8192 can be accepted
- * job, job_len      of 519 numbers or more the first 519 are written by every
- *                   call: the job, or all zeros where the sheet is refused. Of
- *                   fewer none is written
+ * job, job_len      the job is written to the first 519 numbers; fewer are
+ *                   refused as space
  *
  * Returns 0, or CLEARANCE_FORM, _EDGES, _RANGE, _CELL or _SPACE.
  */
@@ -157,7 +154,7 @@ uint8_t clearance_read(const uint8_t *sheet, size_t sheet_len,
  *
  * job, job_len  any numbers
  * out, out_len  the sheet is written to the start; 5645 bytes are always enough
- * bytes         written by every call: the sheet's length, or 0 where refused
+ * bytes         the sheet's length is written here
  *
  * Returns 0, or CLEARANCE_EDGES, _RANGE, _CELL or _SPACE.
  */
@@ -176,8 +173,7 @@ uint8_t clearance_write(const int32_t *job, size_t job_len,
  *                   enough
  * cells, cells_len  the map is written to the start; 65536 bytes are always
  *                   enough
- * nodes             written by every call: the nodes in the store, or 0 where
- *                   refused
+ * nodes             how many nodes are in the store is written here
  *
  * Returns 0, or CLEARANCE_EDGES, _RANGE, _CELL, _LONG, _STORE or _SPACE.
  */
@@ -192,8 +188,7 @@ uint8_t clearance_map(const int32_t *job, size_t job_len,
  * x, y              the point; out of -1000000 to 1000000 it is refused as range
  * store, store_len  begins with the trees of this job, as a map call left them;
  *                   what follows the trees does not matter
- * nearest           written by every call: lo, hi and edge, or zeros where
- *                   refused
+ * nearest           lo, hi and edge are written here
  *
  * Returns 0, or CLEARANCE_EDGES, _RANGE, _CELL, _LONG, _STORE or _STRANGER.
  */

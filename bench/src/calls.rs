@@ -54,9 +54,9 @@ mod symbols {
         ) -> u8;
     }
 
-    /// Reads a sheet into a job, which a refusal leaves as zeros.
+    /// Reads a sheet into a job, which a refusal leaves as it was.
     pub fn read(sheet: &[u8], job: &mut JobNumbers) -> u8 {
-        // The symbol reads the sheet's bytes and writes all the job's numbers.
+        // The symbol reads the sheet's bytes and writes at most the job's numbers.
         unsafe { clearance_read(sheet.as_ptr(), sheet.len(), job.as_mut_ptr(), JOB_NUMBERS) }
     }
 

@@ -33,7 +33,7 @@ mod linked {
         assert_eq!(calls::read(&sheet[..length], &mut numbers), 0);
         assert!(numbers == calls::numbers(job));
         assert_eq!(calls::read(&sheet[1..length], &mut numbers), 1);
-        assert!(numbers == [0; calls::JOB_NUMBERS]);
+        assert!(numbers == calls::numbers(job));
     }
 
     fn assert_same_map(job: &Job) {

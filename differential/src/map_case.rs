@@ -43,7 +43,9 @@ pub fn compare(job: &Numbers, lengths: Lengths, salt: u64, tally: &mut Tally) ->
         wanted_store.part_mut(),
         wanted_cells.part_mut(),
     );
-    wanted_nodes.part_mut()[0] = result.unwrap_or(0);
+    if let Ok(count) = result {
+        wanted_nodes.part_mut()[0] = count;
+    }
     tally.note(number_of(&result));
     Comparison::default()
         .value("refusal", number, number_of(&result))

@@ -41,12 +41,12 @@ pub fn compare(
     };
 
     let result = clearance_reference::point(&reference_job(&job), x, y, given_store.part());
-    let answer = result.map_or([0; 3], |n| {
+    if let Ok(n) = &result {
         let named = nearest.part()[2];
         let fits = attains(&job, named, [x, y], n.hi);
-        [n.lo, n.hi, if fits { named } else { n.edge as i64 }]
-    });
-    wanted.part_mut().copy_from_slice(&answer);
+        let edge = if fits { named } else { n.edge as i64 };
+        wanted.part_mut().copy_from_slice(&[n.lo, n.hi, edge]);
+    }
     tally.note(number_of(&result));
     Comparison::default()
         .value("refusal", number, number_of(&result))

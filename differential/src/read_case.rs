@@ -8,7 +8,7 @@ use crate::random::Random;
 use crate::sheets::{legal_sheet, odd_sheet, sheet_of_length};
 use crate::tally::Tally;
 use clearance::ffi;
-use clearance_reference::{Job, Refusal, SHEET_LIMIT};
+use clearance_reference::{Refusal, SHEET_LIMIT};
 
 /// Reads a lent sheet with both and compares everything.
 fn compare(sheet: &Lent<u8>, salt: u64, tally: &mut Tally) -> Result<(), Fault> {
@@ -21,10 +21,9 @@ fn compare(sheet: &Lent<u8>, salt: u64, tally: &mut Tally) -> Result<(), Fault> 
         unsafe { ffi::clearance_read(sheet.pointer(), sheet.length(), job.pointer_mut(), length) };
 
     let result = clearance_reference::read(given.part());
-    let numbers = numbers_of(result.as_ref().unwrap_or(&Job::ZERO));
-    let has_room = length >= numbers.len();
-    if has_room {
-        wanted.part_mut()[..numbers.len()].copy_from_slice(&numbers);
+    let has_room = length >= clearance::JOB_NUMBERS;
+    if let (Ok(read), true) = (&result, has_room) {
+        wanted.part_mut()[..clearance::JOB_NUMBERS].copy_from_slice(&numbers_of(read));
     }
     let wanted_number = match number_of(&result) {
         0 if !has_room => Refusal::Space.number(),

@@ -30,7 +30,9 @@ pub fn compare(job: &Numbers, length: usize, salt: u64, tally: &mut Tally) -> Re
     };
 
     let result = clearance_reference::write(&reference_job(&job), wanted_out.part_mut());
-    wanted_bytes.part_mut()[0] = result.unwrap_or(0);
+    if let Ok(written) = result {
+        wanted_bytes.part_mut()[0] = written;
+    }
     tally.note(number_of(&result));
     Comparison::default()
         .value("refusal", number, number_of(&result))

@@ -1,10 +1,9 @@
 -- The needs of the C functions, over plain variables. Assumes nothing.
 use mathlib.Core.Path.{_≡_, refl, sym, ap, _∙_, subst}
-use mathlib.Core.Bool.{Bool, true, false, cond}
+use mathlib.Core.Bool.{Bool, cond}
 use mathlib.Core.List.{List, [], _∷_, _++_}
 use Prim.Native.Nat.{ℕ, zero, suc, _^_, _≤_, _<_}
 use native.Mathlib.Omega.{arith}
-use lib.Dec.{leb}
 use lib.IntN.{ℤ, pos}
 use lib.Signed.{mag}
 use lib.ListN.{length, drop}
@@ -22,7 +21,7 @@ use Rattle.model.specs.Entries as entries
 use Rattle.model.specs.Entries.{IsNearest}
 use Rattle.model.specs.Promises.{MapHolds, Bounds, wholePoint}
 use Rattle.flat_jobs.specs.FlatJobs.{jobFrom, numbersOf}
-use Rattle.exports.specs.Rows.{readRefusal, readLeaves, Answered}
+use Rattle.exports.specs.Rows.{readRefusal, readLeaves, bytesLeft, nodesLeft, Answered}
 use Rattle.exports.specs.Counts.{read-few}
 
 -- an edge's bits are the edge
@@ -33,81 +32,112 @@ edge-read n h = rw (lt-ltb n (2 ^ 63) (omega arith))
 pub few-edges : (sheet : List ℕ) (r : Read) → r ≡ entries.read sheet → r .job .count ≤ 64
 few-edges sheet r e = subst (λ (q : Read). q .job .count ≤ 64) (sym e) (read-few sheet)
 
--- a sheet that is accepted with no room, one that is refused with no room, and any sheet with room
-none : (n a b : ℕ) → n ≡ 0 → accepted n a b ≡ a
+-- ---- what an accepted call leaves, and a refused one
+none : (A : Type 0) (n : ℕ) (a b : A) → n ≡ 0 → a ≡ accepted n a b
 unfolding accepted
-none zero a b e = refl
-none (suc n) a b e = absurd (omega arith)
+none A zero a b e = refl
+none A (suc n) a b e = absurd (omega arith)
 
-some : (n a b : ℕ) → (n ≡ 0 → ⊥) → accepted n a b ≡ b
+some : (A : Type 0) (n : ℕ) (a b : A) → 0 < n → b ≡ accepted n a b
 unfolding accepted
-some zero a b e = absurd (e refl)
-some (suc n) a b e = refl
+some A zero a b h = absurd (omega arith)
+some A (suc n) a b h = refl
 
-same : (n : ℕ) → accepted n 0 n ≡ n
-unfolding accepted
-same zero = refl
-same (suc n) = refl
+-- ---- a sheet refused, accepted with no room, accepted with room
+module _ (sheet : List ℕ) (row : List ℤ) (r : Read) (e : r ≡ entries.read sheet) where
+  number : r .refusal ≡ entries.read sheet .refusal
+  number = ap (λ (q : Read). q .refusal) e
 
-kept : (b : Bool) (front old : List ℤ) → b ≡ false → old ≡ cond b front old
-kept true front old e = cc
-kept false front old e = refl
+  pub refused : 0 < r .refusal → (r .refusal ≡ readRefusal sheet row) × (row ≡ readLeaves sheet row)
+  unfolding readRefusal readLeaves
+  refused h =
+      let k : r .refusal ≡ readRefusal sheet row = number ∙ some ℕ (entries.read sheet .refusal) _ _ (omega (arith, h, number)) in
+      (k, some (List ℤ) (readRefusal sheet row) _ row (omega (arith, h, k)))
 
-changed : (b : Bool) (front old : List ℤ) → b ≡ true → front ≡ cond b front old
-changed true front old e = refl
-changed false front old e = cc
+  pub no-room : r .refusal ≡ 0 → length row < 519 → (7 ≡ readRefusal sheet row) × (row ≡ readLeaves sheet row)
+  unfolding readRefusal readLeaves
+  no-room z h =
+      let k : 7 ≡ readRefusal sheet row = ap (λ (b : Bool). cond b 0 7) (sym (lt-leb 519 (length row) h)) ∙ none ℕ (entries.read sheet .refusal) _ _ (sym number ∙ z) in
+      (k, some (List ℤ) (readRefusal sheet row) _ row (omega (arith, k)))
 
-pub no-room : (sheet : List ℕ) (row : List ℤ) (r : Read) → r ≡ entries.read sheet → length row < 519 → r .refusal ≡ 0 → (7 ≡ readRefusal sheet row) × (row ≡ readLeaves sheet row)
-unfolding readRefusal readLeaves
-no-room sheet row r e h z =
-    let t : leb 519 (length row) ≡ false = lt-leb 519 (length row) h in (
-      sym (none (entries.read sheet .refusal) _ _ (ap (λ (q : Read). q .refusal) (sym e) ∙ z) ∙ ap (λ (b : Bool). cond b 0 7) t),
-      kept (leb 519 (length row)) _ row t,
-    )
-
-pub refused : (sheet : List ℕ) (row : List ℤ) (r : Read) → r ≡ entries.read sheet → length row < 519 → (r .refusal ≡ 0 → ⊥) → (r .refusal ≡ readRefusal sheet row) × (row ≡ readLeaves sheet row)
-unfolding readRefusal readLeaves
-refused sheet row r e h z =
-    let t : leb 519 (length row) ≡ false = lt-leb 519 (length row) h in
-    let f = ap (λ (q : Read). q .refusal) e in (
-      f ∙ sym (some (entries.read sheet .refusal) _ _ (λ k. z (f ∙ k))),
-      kept (leb 519 (length row)) _ row t,
-    )
-
-pub room : (sheet : List ℕ) (row after : List ℤ) (r : Read) → r ≡ entries.read sheet → 519 ≤ length row → after ≡ numbersOf (r .job) ++ drop 519 row → (r .refusal ≡ readRefusal sheet row) × (after ≡ readLeaves sheet row)
-unfolding readRefusal readLeaves
-room sheet row after r e h w =
-    let t : leb 519 (length row) ≡ true = le-leb 519 (length row) h in (
-      ap (λ (q : Read). q .refusal) e ∙ sym (ap (λ (b : Bool). accepted (entries.read sheet .refusal) (cond b 0 7) (entries.read sheet .refusal)) t ∙ same (entries.read sheet .refusal)),
-      w ∙ ap (λ (q : Read). numbersOf (q .job) ++ drop 519 row) e ∙ changed (leb 519 (length row)) (numbersOf (entries.read sheet .job) ++ drop 519 row) row t,
-    )
+  pub room : (after : List ℤ) → r .refusal ≡ 0 → 519 ≤ length row → after ≡ numbersOf (r .job) ++ drop 519 row → (0 ≡ readRefusal sheet row) × (after ≡ readLeaves sheet row)
+  unfolding readRefusal readLeaves
+  room after z h w =
+      let k : 0 ≡ readRefusal sheet row = ap (λ (b : Bool). cond b 0 7) (sym (le-leb 519 (length row) h)) ∙ none ℕ (entries.read sheet .refusal) _ _ (sym number ∙ z) in (
+        k,
+        w ∙ ap (λ (q : Read). numbersOf (q .job) ++ drop 519 row) e ∙ none (List ℤ) (readRefusal sheet row) _ row (sym k),
+      )
 
 -- ---- writing and drawing: the job is that of the row
 module _ (vs : List ℤ) (j : Job) (row : j ≡ jobFrom vs) where
-  pub written : (out after : List ℕ) (w : Written) → w ≡ entries.write j out → after ≡ entries.writeLeaves j out → (w .refusal ≡ entries.write (jobFrom vs) out .refusal) × ((w .bytes ≡ entries.write (jobFrom vs) out .bytes) × (after ≡ entries.writeLeaves (jobFrom vs) out))
-  written out after w e f =
-      let g : w ≡ entries.write (jobFrom vs) out = e ∙ ap (λ (k : Job). entries.write k out) row in
-      (ap (λ (q : Written). q .refusal) g, (ap (λ (q : Written). q .bytes) g, f ∙ ap (λ (k : Job). entries.writeLeaves k out) row))
+  -- what both ends of writing have: the refusal, the count left and the lent bytes
+  abbrev Wrote : List ℕ → List ℕ → ℕ → ℕ → ℕ → Type 0
+  Wrote out after old refusal count = (refusal ≡ entries.write (jobFrom vs) out .refusal) × ((count ≡ bytesLeft (jobFrom vs) out old) × (after ≡ entries.writeLeaves (jobFrom vs) out))
 
-  pub drawn : (store after : List ℤ) (cells letters : List ℕ) (m : Map) → m ≡ entries.map j store cells → after ≡ entries.mapStore j store cells → letters ≡ entries.mapCells j store cells → (m .refusal ≡ 0 → MapHolds j letters) → (m .refusal ≡ entries.map (jobFrom vs) store cells .refusal) × ((m .nodes ≡ entries.map (jobFrom vs) store cells .nodes) × ((after ≡ entries.mapStore (jobFrom vs) store cells) × ((letters ≡ entries.mapCells (jobFrom vs) store cells) × (m .refusal ≡ 0 → MapHolds (jobFrom vs) letters))))
-  drawn store after cells letters m e f g h =
-      let k : m ≡ entries.map (jobFrom vs) store cells = e ∙ ap (λ (i : Job). entries.map i store cells) row in (
-        ap (λ (q : Map). q .refusal) k,
-        (
-          ap (λ (q : Map). q .nodes) k,
-          (
-            f ∙ ap (λ (i : Job). entries.mapStore i store cells) row,
-            (g ∙ ap (λ (i : Job). entries.mapCells i store cells) row, λ z. subst (λ (i : Job). MapHolds i letters) row (h z)),
-          ),
-        ),
-      )
+  module _ (out after : List ℕ) (old : ℕ) (w : Written) (e : w ≡ entries.write j out) (f : after ≡ entries.writeLeaves j out) where
+    same-write : w ≡ entries.write (jobFrom vs) out
+    same-write = e ∙ ap (λ (k : Job). entries.write k out) row
+
+    write-number : w .refusal ≡ entries.write (jobFrom vs) out .refusal
+    write-number = ap (λ (q : Written). q .refusal) same-write
+
+    pub not-written : 0 < w .refusal → Wrote out after old (w .refusal) old
+    unfolding bytesLeft
+    not-written h = (write-number, (some ℕ (entries.write (jobFrom vs) out .refusal) _ old (omega (arith, h, write-number)), f ∙ ap (λ (k : Job). entries.writeLeaves k out) row))
+
+    pub written : w .refusal ≡ 0 → Wrote out after old 0 (w .bytes)
+    unfolding bytesLeft
+    written z = (
+      sym z ∙ write-number,
+      (
+        ap (λ (q : Written). q .bytes) same-write ∙ none ℕ (entries.write (jobFrom vs) out .refusal) _ old (sym write-number ∙ z),
+        f ∙ ap (λ (k : Job). entries.writeLeaves k out) row,
+      ),
+    )
+
+  -- and of drawing: the store, the letters and the promise of the map too
+  abbrev Drew : List ℤ → List ℤ → List ℕ → List ℕ → ℕ → ℕ → ℕ → Type 0
+  Drew store after cells letters old refusal count = (refusal ≡ entries.map (jobFrom vs) store cells .refusal) × ((count ≡ nodesLeft (jobFrom vs) store cells old) × ((after ≡ entries.mapStore (jobFrom vs) store cells) × ((letters ≡ entries.mapCells (jobFrom vs) store cells) × (refusal ≡ 0 → MapHolds (jobFrom vs) letters))))
+
+  module _ (store after : List ℤ) (cells letters : List ℕ) (old : ℕ) (m : Map) (e : m ≡ entries.map j store cells) (f : after ≡ entries.mapStore j store cells) (g : letters ≡ entries.mapCells j store cells) (h : m .refusal ≡ 0 → MapHolds j letters) where
+    same-map : m ≡ entries.map (jobFrom vs) store cells
+    same-map = e ∙ ap (λ (i : Job). entries.map i store cells) row
+
+    map-number : m .refusal ≡ entries.map (jobFrom vs) store cells .refusal
+    map-number = ap (λ (q : Map). q .refusal) same-map
+
+    lent : (refusal : ℕ) → m .refusal ≡ refusal → (after ≡ entries.mapStore (jobFrom vs) store cells) × ((letters ≡ entries.mapCells (jobFrom vs) store cells) × (refusal ≡ 0 → MapHolds (jobFrom vs) letters))
+    lent refusal k = (
+      f ∙ ap (λ (i : Job). entries.mapStore i store cells) row,
+      (g ∙ ap (λ (i : Job). entries.mapCells i store cells) row, λ z. subst (λ (i : Job). MapHolds i letters) row (h (k ∙ z))),
+    )
+
+    pub not-drawn : 0 < m .refusal → Drew store after cells letters old (m .refusal) old
+    unfolding nodesLeft
+    not-drawn p = (map-number, (some ℕ (entries.map (jobFrom vs) store cells .refusal) _ old (omega (arith, p, map-number)), lent (m .refusal) refl))
+
+    pub drawn : m .refusal ≡ 0 → Drew store after cells letters old 0 (m .nodes)
+    unfolding nodesLeft
+    drawn z = (
+      sym z ∙ map-number,
+      (ap (λ (q : Map). q .nodes) same-map ∙ none ℕ (entries.map (jobFrom vs) store cells .refusal) _ old (sym map-number ∙ z), lent 0 z),
+    )
 
   -- ---- a point, whose coordinates and answers are read back from their bits
-  pub answered : (x y : ℤ) (store : List ℤ) (r : Nearest) (e : ℤ) → mag x < 2 ^ 31 → mag y < 2 ^ 31 → mag (r .lo) < 2 ^ 63 → mag (r .hi) < 2 ^ 63 → mag e < 2 ^ 63 → e ≡ pos (r .edge) → IsNearest j (toZ w32 (ofZ w32 x)) (toZ w32 (ofZ w32 y)) store r → (r .refusal ≡ 0 → Bounds j (wholePoint (toZ w32 (ofZ w32 x)) (toZ w32 (ofZ w32 y))) (r .lo) (r .hi)) → Answered (jobFrom vs) x y store (r .refusal) (toZ w64 (ofZ w64 (r .lo)) ∷ toZ w64 (ofZ w64 (r .hi)) ∷ toZ w64 (ofZ w64 e) ∷ [])
-  answered x y store r e hx hy hl hh he f n b = record {
-    nearest = r;
-    is-nearest = subst (λ (i : Job). IsNearest i x y store r) row (subst (λ (z : ℤ). IsNearest j z y store r) (read32 x hx) (subst (λ (z : ℤ). IsNearest j (toZ w32 (ofZ w32 x)) z store r) (read32 y hy) n));
-    refusal-is = refl;
-    numbers-are = rw (read64 (r .lo) hl, read64 (r .hi) hh, read64 e he, f);
-    bounds = λ z. subst (λ (i : Job). Bounds i (wholePoint x y) (r .lo) (r .hi)) row (subst (λ (u : ℤ). Bounds j (wholePoint u y) (r .lo) (r .hi)) (read32 x hx) (subst (λ (u : ℤ). Bounds j (wholePoint (toZ w32 (ofZ w32 x)) u) (r .lo) (r .hi)) (read32 y hy) (b z)));
-  }
+  module _ (x y : ℤ) (store old : List ℤ) (r : Nearest) (hx : mag x < 2 ^ 31) (hy : mag y < 2 ^ 31) (n : IsNearest j (toZ w32 (ofZ w32 x)) (toZ w32 (ofZ w32 y)) store r) (b : r .refusal ≡ 0 → Bounds j (wholePoint (toZ w32 (ofZ w32 x)) (toZ w32 (ofZ w32 y))) (r .lo) (r .hi)) where
+    answer : (refusal : ℕ) (numbers : List ℤ) → r .refusal ≡ refusal → numbers ≡ accepted (r .refusal) (r .lo ∷ r .hi ∷ pos (r .edge) ∷ []) old → Answered (jobFrom vs) x y store old refusal numbers
+    answer refusal numbers k e = record {
+      nearest = r;
+      is-nearest = subst (λ (i : Job). IsNearest i x y store r) row (subst (λ (z : ℤ). IsNearest j z y store r) (read32 x hx) (subst (λ (z : ℤ). IsNearest j (toZ w32 (ofZ w32 x)) z store r) (read32 y hy) n));
+      refusal-is = sym k;
+      numbers-are = e;
+      bounds = λ z. subst (λ (i : Job). Bounds i (wholePoint x y) (r .lo) (r .hi)) row (subst (λ (u : ℤ). Bounds j (wholePoint u y) (r .lo) (r .hi)) (read32 x hx) (subst (λ (u : ℤ). Bounds j (wholePoint (toZ w32 (ofZ w32 x)) u) (r .lo) (r .hi)) (read32 y hy) (b (k ∙ z))));
+    }
+
+    pub not-answered : 0 < r .refusal → Answered (jobFrom vs) x y store old (r .refusal) old
+    not-answered h = answer (r .refusal) old refl (some (List ℤ) (r .refusal) _ old h)
+
+    pub answered : (e : ℤ) → mag (r .lo) < 2 ^ 63 → mag (r .hi) < 2 ^ 63 → mag e < 2 ^ 63 → e ≡ pos (r .edge) → r .refusal ≡ 0 → Answered (jobFrom vs) x y store old 0 (toZ w64 (ofZ w64 (r .lo)) ∷ toZ w64 (ofZ w64 (r .hi)) ∷ toZ w64 (ofZ w64 e) ∷ [])
+    answered e hl hh he f z =
+        let told : toZ w64 (ofZ w64 (r .lo)) ∷ toZ w64 (ofZ w64 (r .hi)) ∷ toZ w64 (ofZ w64 e) ∷ [] ≡ r .lo ∷ r .hi ∷ pos (r .edge) ∷ [] = rw (read64 (r .lo) hl, read64 (r .hi) hh, read64 e he, f) in
+        answer 0 _ z (told ∙ none (List ℤ) (r .refusal) (r .lo ∷ r .hi ∷ pos (r .edge) ∷ []) old z)

@@ -1,10 +1,9 @@
 -- A job that was read has at most 64 edges, and an edge that is named is one of at most 64. Assumes nothing.
-use mathlib.Core.Path.{_≡_, refl, sym, ap, _∙_, subst}
-use mathlib.Core.Bool.{Bool, true, cond, _&&_}
+use mathlib.Core.Path.{_≡_, refl, ap, _∙_}
 use mathlib.Core.List.{List, [], _∷_}
 use Prim.Native.Nat.{ℕ, zero, suc, _+_, _≤_, _<_}
 use native.Mathlib.Omega.{arith}
-use lib.IntN.{ℤ, pos}
+use lib.IntN.{ℤ}
 use lib.ListN.{length}
 use Rattle.model.specs.declared.Job.{Job}
 use Rattle.model.specs.declared.Nearest.{Nearest}
@@ -14,7 +13,7 @@ use Rattle.model.specs.Sheets.{Sheet, lines, broken, jobOf, readSheet}
 use Rattle.model.specs.Strips.{Strip}
 use Rattle.model.specs.Trees.{Tree, trees}
 use Rattle.model.specs.Store.{forest}
-use Rattle.model.specs.Distance.{leavesAt, Some, Attains}
+use Rattle.model.specs.Distance.{leavesAt, Some}
 use Rattle.model.specs.Entries.{read, readAnswer, pointRefusal, EdgeFor, IsNearest}
 use Rattle.ranges.specs.Legal.{passed, is-counted, legal}
 

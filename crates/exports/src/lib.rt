@@ -1,13 +1,13 @@
 // The library's face for callers in C and Rust: the four entries over numbers, slices and pointers. A job is a row of 519 numbers; of a row
-// that is shorter the missing numbers are 0, and of one that is longer the rest is not looked at. None asks anything of its caller.
+// that is shorter the missing numbers are 0, and of one that is longer the rest is not looked at. None asks anything of its caller, and a
+// refused call changes nothing.
 ghost use mathlib.Core.Path.{_≡_};
-ghost use mathlib.Core.List.{[], _∷_};
 ghost use Prim.Native.Nat.{_<_};
-ghost use lib.IntN.{ℤ, pos};
+ghost use lib.IntN.{pos};
 ghost use Rattle.model.specs.Entries as entries;
 ghost use Rattle.model.specs.Promises.{MapHolds};
 ghost use Rattle.flat_jobs.specs.FlatJobs.{jobFrom};
-ghost use Rattle.exports.specs.Rows.{readRefusal, readLeaves, Answered};
+ghost use Rattle.exports.specs.Rows.{readRefusal, readLeaves, bytesLeft, nodesLeft, Answered};
 
 // Reads a sheet into the front of `job`: 0, or the sheet's refusal 1, 2, 3 or 4, or 7 where `job` has no room for 519 numbers.
 #[no_mangle]
@@ -17,32 +17,35 @@ pub extern "C" fn clearance_read(sheet: &[u8], job: &mut [i32]) -> u8
 {
     let read = clearance::read(sheet);
     let refusal = read.refusal;
-    if job.len() < 519 {
-        if refusal == 0 {
-            return 7;
-        }
+    if refusal > 0 {
         return refusal;
+    }
+    if job.len() < 519 {
+        return 7;
     }
     let found = read.job;
     flat_jobs::put_job(found, job);
-    refusal
+    0
 }
 
-// Writes a job's sheet at the front of `out`: 0 and how many bytes, or the refusal 2, 3, 4 or 7 and no bytes.
+// Writes a job's sheet at the front of `out`: 0 and how many bytes, or the refusal 2, 3, 4 or 7.
 #[no_mangle]
 pub extern "C" fn clearance_write(job: &[i32], out: &mut [u8], bytes: &mut usize) -> u8
     ensures refusal { λ r. ⌜ r ≡ entries.write (jobFrom (now (job .entry))) (now (out .entry)) .refusal ⌝ }
-    ensures count { λ _. ⌜ now (bytes .exit) ≡ entries.write (jobFrom (now (job .entry))) (now (out .entry)) .bytes ⌝ }
+    ensures count { λ _. ⌜ now (bytes .exit) ≡ bytesLeft (jobFrom (now (job .entry))) (now (out .entry)) (now (bytes .entry)) ⌝ }
     ensures lent { λ _. ⌜ now (out .exit) ≡ entries.writeLeaves (jobFrom (now (job .entry))) (now (out .entry)) ⌝ }
 {
     let given = flat_jobs::job_from(job);
     let written = clearance::write(given, out);
+    let refusal = written.refusal;
+    if refusal > 0 {
+        return refusal;
+    }
     *bytes = written.bytes;
-    written.refusal
+    0
 }
 
-// Draws a job's map at the front of `cells`, with its trees at the front of `store`: 0 and how many nodes they have, or the refusal 2 to 7
-// and no nodes.
+// Draws a job's map at the front of `cells`, with its trees at the front of `store`: 0 and how many nodes they have, or the refusal 2 to 7.
 #[no_mangle]
 pub extern "C" fn clearance_map(
     job: &[i32],
@@ -51,15 +54,19 @@ pub extern "C" fn clearance_map(
     nodes: &mut usize,
 ) -> u8
     ensures refusal { λ r. ⌜ r ≡ entries.map (jobFrom (now (job .entry))) (now (store .entry)) (now (cells .entry)) .refusal ⌝ }
-    ensures count { λ _. ⌜ now (nodes .exit) ≡ entries.map (jobFrom (now (job .entry))) (now (store .entry)) (now (cells .entry)) .nodes ⌝ }
+    ensures count { λ _. ⌜ now (nodes .exit) ≡ nodesLeft (jobFrom (now (job .entry))) (now (store .entry)) (now (cells .entry)) (now (nodes .entry)) ⌝ }
     ensures trees { λ _. ⌜ now (store .exit) ≡ entries.mapStore (jobFrom (now (job .entry))) (now (store .entry)) (now (cells .entry)) ⌝ }
     ensures letters { λ _. ⌜ now (cells .exit) ≡ entries.mapCells (jobFrom (now (job .entry))) (now (store .entry)) (now (cells .entry)) ⌝ }
     ensures demand3 { λ r. ⌜ (r ≡ 0 → MapHolds (jobFrom (now (job .entry))) (now (cells .exit))) ⌝ }
 {
     let given = flat_jobs::job_from(job);
     let map = clearance::map(given, store, cells);
+    let refusal = map.refusal;
+    if refusal > 0 {
+        return refusal;
+    }
     *nodes = map.nodes;
-    map.refusal
+    0
 }
 
 fn edge_number(edge: usize) -> i64
@@ -70,7 +77,7 @@ fn edge_number(edge: usize) -> i64
 }
 
 // Bounds a point's squared distance from a job's outline: 0 and the two bounds with an edge that attains the upper one, or the refusal 2, 3,
-// 4, 5, 6 or 8 and zeros.
+// 4, 5, 6 or 8.
 #[no_mangle]
 pub extern "C" fn clearance_point(
     job: &[i32],
@@ -79,13 +86,17 @@ pub extern "C" fn clearance_point(
     store: &[i32],
     nearest: &mut [i64; 3],
 ) -> u8
-    ensures answer { λ r. ⌜ Answered (jobFrom (now (job .entry))) x y (now (store .entry)) r (now (nearest .exit)) ⌝ }
+    ensures answer { λ r. ⌜ Answered (jobFrom (now (job .entry))) x y (now (store .entry)) (now (nearest .entry)) r (now (nearest .exit)) ⌝ }
 {
     let given = flat_jobs::job_from(job);
     let found = clearance::point(given, x, y, store);
+    let refusal = found.refusal;
+    if refusal > 0 {
+        return refusal;
+    }
     let lo = found.lo;
     let hi = found.hi;
     let edge = edge_number(found.edge);
     *nearest = [lo, hi, edge];
-    found.refusal
+    0
 }
