@@ -23,7 +23,7 @@ use Rattle.ranges.specs.Legal.{both, passed}
 use Rattle.verdicts.specs.DemandThree.{demand-three}
 use Rattle.verdicts.specs.PointBounds.{point-bounds}
 
-accepted-is : (n : ℕ) {A : Type 0} (a b : A) → n ≡ 0 → accepted n a b ≡ a
+pub accepted-is : (n : ℕ) {A : Type 0} (a b : A) → n ≡ 0 → accepted n a b ≡ a
 unfolding accepted
 accepted-is zero a b e = refl
 accepted-is (suc n) a b e = absurd (omega arith)
@@ -36,7 +36,7 @@ negated true e = sym e
 in-map : (n i k : ℕ) → i < n → k < n → k * n + i < n * n
 in-map n i k hi hk = omega (arith, mul-le-mul-right n hk)
 
-map-long : (j : Job) → length (mapOf j) ≡ columns j * columns j
+pub map-long : (j : Job) → length (mapOf j) ≡ columns j * columns j
 unfolding mapOf
 map-long j = length-rowMajor (columns j) (columns j) (λ i k. letter (mapped j i k))
 
@@ -57,6 +57,10 @@ checks-passed a b c d e f h =
     let r = passed c _ 3 (q .1) in
     let s = passed d _ 4 (r .1) in
     (rw (p .0, q .0, r .0), s .0)
+
+pub map-judged : (j : Job) (s : List ℤ) (c : List ℕ) → mapRefusal j s c ≡ 0 → judge j ≡ 0
+unfolding mapRefusal judge
+map-judged j s c e = checks-passed (counted j) (ranged j) (celled j) (not (anyLong (forest j))) (leb (width * nodesOf j) (length s)) (leb (cellsOf j) (length c)) e .0
 
 -- what an accepted map call leaves in the map lent
 pub map-holds : (j : Job) (s : List ℤ) (c : List ℕ) → map j s c .refusal ≡ 0 → MapHolds j (mapCells j s c)

@@ -14,7 +14,7 @@ use mir.Val.{toZ}
 use mir.Facts.{toZ-pos}
 use Rattle.model.specs.Bytes.{bytes}
 use Rattle.model.specs.Forms.{writeForm}
-use Rattle.model.specs.Printing.{rowText, rowsText}
+use Rattle.model.specs.Printing.{mapForm, rowText, rowsText, mapText}
 use Rattle.sheet_text.specs.Numbers.{Small}
 use Rattle.sheet_text.specs.Forms.{AllSmall}
 use Rattle.printing.specs.Puts.{Put}
@@ -124,3 +124,18 @@ form-put F a b at r n v p e = subst (λ u. Put a b at r (writeForm F (u ∷ []))
 -- the part of a row
 pub row-part : (cells : List ℕ) (a n : ℕ) → take (a + n - a) (drop a cells) ≡ take n (drop a cells)
 row-part cells a n = let z : a + n - a ≡ n = omega arith in rw z
+
+-- ---- a whole map: 14 bytes for its first line, 263 for each of 256 rows, 2 for its end
+pub rows-fit : (a n : ℕ) → n ≤ 256 → a ≤ 14 → a + (n - 0) * (n + 7) + 2 ≤ 67344
+rows-fit a n h k =
+    let w : n + 7 ≤ 263 = omega arith in
+    let z : n - 0 ≡ n = omega arith in
+    rw z (omega (arith, mul-le-mul h w))
+
+pub map-put : (a b c d : List ℕ) (i k next n : ℕ) (cells : List ℕ) → Put a b 0 i (writeForm mapForm (pos n ∷ [])) → Put b c i k (rowsText n (n - 0) (drop (0 * n) cells)) → Put c d k next (bytes ")\n") → Put a d 0 next (mapText n cells)
+unfolding mapText
+map-put a b c d i k next n cells p q r =
+    let z : n - 0 ≡ n = omega arith in
+    let w : 0 * n ≡ 0 = omega arith in
+    let s : Put b c i k (rowsText n n cells) = subst (λ m. Put b c i k (rowsText n n (drop m cells))) w (subst (λ m. Put b c i k (rowsText n m (drop (0 * n) cells))) z q) in
+    put-then a b d 0 i next (writeForm mapForm (pos n ∷ [])) (rowsText n n cells ++ bytes ")\n") p (put-then b c d i k next (rowsText n n cells) (bytes ")\n") s r)

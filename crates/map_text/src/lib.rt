@@ -7,7 +7,7 @@ ghost use lib.IntN.{pos};
 ghost use lib.ListN.{length, drop};
 ghost use Rattle.model.specs.Bytes.{bytes};
 ghost use Rattle.model.specs.Forms.{writeForm};
-ghost use Rattle.model.specs.Printing.{refusedForm, mapForm, rowText, rowsText};
+ghost use Rattle.model.specs.Printing.{refusedForm, mapForm, rowText, rowsText, mapText};
 ghost use Rattle.printing.specs.Puts.{Put};
 
 fn number(n: usize) -> i32
@@ -79,4 +79,15 @@ pub fn put_end(out: &mut [u8], at: usize) -> usize
     ensures wrote { λ r. ⌜ Put (now (out .entry)) (now (out .exit)) at r (bytes ")\n") ⌝ }
 {
     put_bytes(out, at, b")\n")
+}
+
+// A whole map of n cells a side, from the front of `out`.
+pub fn put_map(out: &mut [u8], cells: &[u8], n: usize) -> usize
+    requires { ⌜ (n ≤ 256) × (n * n ≤ length (now cells)) × (67344 ≤ length (now out)) ⌝ }
+    ensures wrote { λ r. ⌜ Put (now (out .entry)) (now (out .exit)) 0 r (mapText n (now (cells .entry))) ⌝ }
+    ensures bound { λ r. ⌜ r ≤ 67344 ⌝ }
+{
+    let a = put_head(out, 0, n);
+    let b = put_rows(out, a, cells, n, 0, n);
+    put_end(out, b)
 }
