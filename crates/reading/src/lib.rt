@@ -78,24 +78,22 @@ fn nothing_kept() -> [i32; 512]
     [0i32; 512]
 }
 
-// The numbers of one more edge, after `count` edges. 64 edges are kept.
-fn kept(values: [i32; 512], count: usize, line: [i32; 8]) -> [i32; 512]
-    requires sizes { ⌜ (length values ≡ 512) × (length line ≡ 8) ⌝ }
-    ensures answer { λ r. ⌜ r ≡ keep values count line ⌝ }
+// Puts the numbers of one more edge in place, after `count` edges. 64 edges are kept.
+fn keep_edge(values: &mut [i32; 512], count: usize, line: [i32; 8])
+    requires sizes { ⌜ (length (now values) ≡ 512) × (length line ≡ 8) ⌝ }
+    ensures answer { λ _. ⌜ now (values .exit) ≡ keep (now (values .entry)) count line ⌝ }
 {
-    let mut out = values;
     if count >= 64 {
-        return out;
+        return;
     }
     let base = count * 8;
     let mut j: usize = 0;
     while j < 8 {
         let v = line[j];
         let k = base + j;
-        out[k] = v;
+        values[k] = v;
         j += 1;
     }
-    out
 }
 
 // The edge lines, as many as there are.
@@ -111,8 +109,7 @@ fn edges_at(s: &[u8], at: usize) -> Edges
         let line = form_at(s, i, b"(edge (# #) (# #) (# #) (# #))\n");
         if line.found {
             let numbers = line.values;
-            let more = kept(values, count, numbers);
-            values = more;
+            keep_edge(&mut values, count, numbers);
             count += 1;
             i = line.next;
         } else {

@@ -28,8 +28,8 @@ form-at-requires : tie.Need-form-at-requires Inv-loop μ-loop
 unfolding marks
 form-at-requires c κs = (search (needs, edges.inside), lit≤ tt)
 
-kept-requires : tie.Need-kept-requires Inv-loop μ-loop
-kept-requires c κs = search (needs, edges.full)
+keep-edge-requires : tie.Need-keep-edge-requires Inv-loop μ-loop
+keep-edge-requires c κs = search (needs, edges.full)
 
 add-count : tie.Need-add-count Inv-loop μ-loop
 unfolding edgeForm
@@ -60,7 +60,7 @@ edges-at-spec =
     loop-holds
     slice-aggregate-form-at
     form-at-requires
-    kept-requires
+    keep-edge-requires
     add-count
     loop-less
     loop-again

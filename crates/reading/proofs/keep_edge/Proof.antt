@@ -1,18 +1,18 @@
--- `reading::kept` meets its contract. The invariant: the first j numbers of the line are in their places. Assumes nothing.
+-- `reading::keep_edge` meets its contract. The invariant: the first j numbers of the line are in their places. Assumes nothing.
 use mathlib.Core.Path.{_≡_}
 use Prim.Native.Nat.{_-_, _*_, _≤_}
 use native.Mathlib.Omega.{arith}
 use lib.Seq.{paste-zero, paste}
 use borrow.Author.Needs.{needs}
 use Rattle.reading.proofs.EdgeLines as edges
-use Rattle.reading.proofs.kept.Statement.{statement}
-use Rattle.reading.proofs.kept.Tie as tie
+use Rattle.reading.proofs.keep_edge.Statement.{statement}
+use Rattle.reading.proofs.keep_edge.Tie as tie
 
 abbrev Inv-loop : tie.InvT-loop
-Inv-loop count line out₀ base j₀ out j = (out ≡ paste out₀ base line j) × (j ≤ 8)
+Inv-loop values₀ count line base j₀ values j = (values ≡ paste values₀ base line j) × (j ≤ 8)
 
 abbrev μ-loop : tie.MeasureT-loop
-μ-loop count line out₀ base j₀ out j = 8 - j
+μ-loop values₀ count line base j₀ values j = 8 - j
 
 returns : tie.Need-returns Inv-loop μ-loop
 returns c = search (needs, edges.all-kept)
@@ -21,7 +21,7 @@ mul-base : tie.Need-mul-base Inv-loop μ-loop
 mul-base c = omega arith
 
 loop-holds : tie.Need-loop-holds Inv-loop μ-loop
-loop-holds c = (paste-zero (c .before .args .values) (c .before .args .count * 8) (c .before .args .t3), omega arith)
+loop-holds c = (paste-zero (c .before .args .values .now) (c .before .args .count * 8) (c .before .args .t3), omega arith)
 
 mul-v : tie.Need-mul-v Inv-loop μ-loop
 mul-v c = omega arith
@@ -32,11 +32,11 @@ array-copy-out-v c = omega arith
 add-k : tie.Need-add-k Inv-loop μ-loop
 add-k c = omega arith
 
-mul-out : tie.Need-mul-out Inv-loop μ-loop
-mul-out c = omega arith
+mul-v-2 : tie.Need-mul-v-2 Inv-loop μ-loop
+mul-v-2 c = omega arith
 
-array-set-from-out : tie.Need-array-set-from-out Inv-loop μ-loop
-array-set-from-out c = omega arith
+element-set-from-v : tie.Need-element-set-from-v Inv-loop μ-loop
+element-set-from-v c = omega arith
 
 add-j : tie.Need-add-j Inv-loop μ-loop
 add-j c = omega arith
@@ -50,8 +50,8 @@ loop-again c = (search (needs, edges.kept-more), omega arith)
 returns-2 : tie.Need-returns-2 Inv-loop μ-loop
 returns-2 c = search (needs, edges.kept-now)
 
-pub kept-spec : {M : Type 1} → statement M
-kept-spec =
+pub keep-edge-spec : {M : Type 1} → statement M
+keep-edge-spec =
     tie.close
     (tie.spec
     Inv-loop
@@ -62,8 +62,8 @@ kept-spec =
     mul-v
     array-copy-out-v
     add-k
-    mul-out
-    array-set-from-out
+    mul-v-2
+    element-set-from-v
     add-j
     loop-less
     loop-again
