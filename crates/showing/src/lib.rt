@@ -2,9 +2,13 @@
 // language says nothing: that part is thin.
 use libc::STDOUT_FILENO;
 use model::Job;
+ghost use mathlib.Core.Path.{_≡_};
+ghost use mathlib.Core.List.{[], _∷_};
 ghost use Prim.Native.Nat.{_≤_};
+ghost use lib.IntN.{pos};
 ghost use lib.ListN.{length};
-ghost use Rattle.model.specs.Printing.{mapAnswered, printed};
+ghost use Rattle.model.specs.Forms.{writeForm};
+ghost use Rattle.model.specs.Printing.{refusedForm, mapAnswered, printed};
 ghost use Rattle.printing.specs.Puts.{Put};
 
 // The answer to a job, with 16,380 numbers and 65,536 bytes lent to the library. A map of 256 cells a side takes 67,344 bytes at most.
@@ -39,16 +43,22 @@ pub fn put_printed(sheet: &[u8], out: &mut [u8]) -> usize
     put_answer(job, out)
 }
 
-// Writes the answer to a sheet.
-pub fn show_sheet(sheet: &[u8]) {
+// Hands the answer to a sheet to standard output, and says how many bytes it has.
+pub fn show_sheet(sheet: &[u8]) -> usize
+    ensures bytes { λ r. ⌜ r ≡ length (printed (now (sheet .entry))) ⌝ }
+{
     let mut out = [0u8; 67344];
     let end = put_printed(sheet, &mut out);
     io::write_all(STDOUT_FILENO, &out[..end]);
+    end
 }
 
-// Writes a refusal's line.
-pub fn show_refusal(refusal: u8) {
+// Hands a refusal's line to standard output, and says how many bytes it has.
+pub fn show_refusal(refusal: u8) -> usize
+    ensures bytes { λ r. ⌜ r ≡ length (writeForm refusedForm (pos refusal ∷ [])) ⌝ }
+{
     let mut out = [0u8; 19];
     let end = map_text::put_refusal(&mut out, 0, refusal as usize);
     io::write_all(STDOUT_FILENO, &out[..end]);
+    end
 }
