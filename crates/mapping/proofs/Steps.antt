@@ -15,7 +15,7 @@ use Rattle.integers.specs.Signed.{read32, read64}
 use Rattle.model.specs.declared.Job.{Job}
 use Rattle.model.specs.Jobs.{between, judge, edgesFrom}
 use Rattle.model.specs.Trees.{trees, anyLong}
-use Rattle.model.specs.Store.{sizes, flattenAll, forest, nodesOf, storeOf}
+use Rattle.model.specs.Store.{width, sizes, flattenAll, forest, nodesOf, storeOf}
 use Rattle.model.specs.Plates.{columns, cellsOf}
 use Rattle.model.specs.Entries.{over, mapRefusal}
 use Rattle.ranges.specs.Legal.{legal}
@@ -89,10 +89,10 @@ module _ (j : Job) (numbers room : ℕ) (r : Checked) where
       kept : (anyLong (forest j) ≡ false) × (n ≡ nodesOf j)
       kept = some-short j judged n f some
 
-      pub refused-store : numbers < 7 * n → (r .refusal ≡ 6) × (r .nodes ≡ 0) → Told
+      pub refused-store : numbers < width * n → (r .refusal ≡ 6) × (r .nodes ≡ 0) → Told
       refused-store l w = refused-by 6 (λ u. omega arith) (λ s c g h. map-store j s c judged (kept .0) (omega (arith, kept .1, g))) (w .0)
 
-      module _ (fits : 7 * n ≤ numbers) (v : ℕ) (side : v ≡ columns j) where
+      module _ (fits : width * n ≤ numbers) (v : ℕ) (side : v ≡ columns j) where
         cells : v * v ≡ cellsOf j
         cells = ap (λ u. u * u) side
 
@@ -100,7 +100,7 @@ module _ (j : Job) (numbers room : ℕ) (r : Checked) where
         refused-space l w = refused-by 7 (λ u. omega arith) (λ s c g h. map-space j s c judged (kept .0) (omega (arith, kept .1, g)) (omega (arith, cells, h))) (w .0)
 
 -- the last: everything passed
-pub all-passed : (j : Job) (numbers room k n v : ℕ) → k ≡ judge j → k ≡ 0 → mag (j .grain) < 2 ^ 31 → n ≡ countedBy j (toZ w32 (ofZ w32 (j .grain))) → (n ≡ 0 → ⊥) → 7 * n ≤ numbers → v ≡ columns j → v * v ≤ room → Refuses j numbers room 0 × (_≡_ {A = ℕ} 0 0 → Passed j numbers room n)
+pub all-passed : (j : Job) (numbers room k n v : ℕ) → k ≡ judge j → k ≡ 0 → mag (j .grain) < 2 ^ 31 → n ≡ countedBy j (toZ w32 (ofZ w32 (j .grain))) → (n ≡ 0 → ⊥) → width * n ≤ numbers → v ≡ columns j → v * v ≤ room → Refuses j numbers room 0 × (_≡_ {A = ℕ} 0 0 → Passed j numbers room n)
 all-passed j numbers room k n v e z g b some fits side l =
     let ok = sym e ∙ z in
     let cells : v * v ≡ cellsOf j = ap (λ u. u * u) side in
@@ -120,7 +120,7 @@ none-or : (b : Bool) (n k : ℕ) → k ≡ cond b 0 n → k ≤ n
 none-or true n k e = omega arith
 none-or false n k e = omega arith
 
-pub numbers-fit : (j : Job) (k : ℕ) → k ≡ judge j → k ≡ 0 → mag (j .grain) < 2 ^ 31 → (n : ℕ) → n ≡ countedBy j (toZ w32 (ofZ w32 (j .grain))) → Fits w64 (7 * n)
+pub numbers-fit : (j : Job) (k : ℕ) → k ≡ judge j → k ≡ 0 → mag (j .grain) < 2 ^ 31 → (n : ℕ) → n ≡ countedBy j (toZ w32 (ofZ w32 (j .grain))) → Fits w64 (width * n)
 numbers-fit j k q z g n b =
     let ok = sym q ∙ z in
     let e : n ≡ countedBy j (j .grain) = b ∙ ap (countedBy j) (read32 (j .grain) g) in
@@ -129,18 +129,18 @@ numbers-fit j k q z g n b =
 -- ---- the trees and the map
 module _ (j : Job) (numbers room nodes : ℕ) (h : Passed j numbers room nodes) where
   module _ (g : mag (j .grain) < 2 ^ 31) where
-    pub trees-ready : Limits (j .places) × (j .count ≤ 64) × GrainSized (toZ w32 (ofZ w32 (j .grain))) × (anyLong (trees (toZ w32 (ofZ w32 (j .grain))) (edgesFrom (j .places) (j .count) 0)) ≡ false) × (7 * sizes (trees (toZ w32 (ofZ w32 (j .grain))) (edgesFrom (j .places) (j .count) 0)) ≤ numbers)
+    pub trees-ready : Limits (j .places) × (j .count ≤ 64) × GrainSized (toZ w32 (ofZ w32 (j .grain))) × (anyLong (trees (toZ w32 (ofZ w32 (j .grain))) (edgesFrom (j .places) (j .count) 0)) ≡ false) × (width * sizes (trees (toZ w32 (ofZ w32 (j .grain))) (edgesFrom (j .places) (j .count) 0)) ≤ numbers)
     trees-ready =
         let s = judge-sized j (h .judged) in
         rw (read32 (j .grain) g) (s .places-in, s .few-edges, s .grain-in-range, ap anyLong (sym (forest-is j)) ∙ h .short, omega (arith, h .store-fits, ap sizes (forest-is j)))
 
-    pub store-now : (old new : List ℤ) → new ≡ flattenAll (trees (toZ w32 (ofZ w32 (j .grain))) (edgesFrom (j .places) (j .count) 0)) ++ drop (7 * sizes (trees (toZ w32 (ofZ w32 (j .grain))) (edgesFrom (j .places) (j .count) 0))) old → new ≡ over (storeOf j) old
+    pub store-now : (old new : List ℤ) → new ≡ flattenAll (trees (toZ w32 (ofZ w32 (j .grain))) (edgesFrom (j .places) (j .count) 0)) ++ drop (width * sizes (trees (toZ w32 (ofZ w32 (j .grain))) (edgesFrom (j .places) (j .count) 0))) old → new ≡ over (storeOf j) old
     store-now old new e =
         e ∙ rw (read32 (j .grain) g)
-        (ap (λ ts. flattenAll ts ++ drop (7 * sizes ts) old) (sym (forest-is j)) ∙ ap (λ n. storeOf j ++ drop n old) (sym (length-all (forest j))))
+        (ap (λ ts. flattenAll ts ++ drop (width * sizes ts) old) (sym (forest-is j)) ∙ ap (λ n. storeOf j ++ drop n old) (sym (length-all (forest j))))
 
 -- the trees that were built and the numbers that were placed are what the drawing asks for
-pub map-now : (j : Job) (nodes : ℕ) (old new : List ℤ) (cells : List ℕ) → Passed j (length old) (length cells) nodes → mag (j .grain) < 2 ^ 31 → new ≡ flattenAll (trees (toZ w32 (ofZ w32 (j .grain))) (edgesFrom (j .places) (j .count) 0)) ++ drop (7 * sizes (trees (toZ w32 (ofZ w32 (j .grain))) (edgesFrom (j .places) (j .count) 0))) old → (p : Placing) → Places p j → MapReady j cells new (j .count) (p .x) (p .y) (p .n) (p .m) (p .reach)
+pub map-now : (j : Job) (nodes : ℕ) (old new : List ℤ) (cells : List ℕ) → Passed j (length old) (length cells) nodes → mag (j .grain) < 2 ^ 31 → new ≡ flattenAll (trees (toZ w32 (ofZ w32 (j .grain))) (edgesFrom (j .places) (j .count) 0)) ++ drop (width * sizes (trees (toZ w32 (ofZ w32 (j .grain))) (edgesFrom (j .places) (j .count) 0))) old → (p : Placing) → Places p j → MapReady j cells new (j .count) (p .x) (p .y) (p .n) (p .m) (p .reach)
 map-now j nodes old new cells h g e p q = record {
   accepted = h .judged;
   count-is = refl;

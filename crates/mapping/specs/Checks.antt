@@ -13,7 +13,7 @@ use Rattle.model.specs.Refusals as refused
 use Rattle.model.specs.Refusals.{check, accepted}
 use Rattle.model.specs.Jobs.{counted, ranged, celled, judge, edgesFrom}
 use Rattle.model.specs.Trees.{trees, anyLong}
-use Rattle.model.specs.Store.{sizes, forest, nodesOf, storeOf}
+use Rattle.model.specs.Store.{width, sizes, forest, nodesOf, storeOf}
 use Rattle.model.specs.Plates.{cellsOf, mapOf}
 use Rattle.model.specs.Entries.{mapRefusal, map, mapStore, mapCells, over}
 use Rattle.ranges.specs.Jobs.{judge-sized}
@@ -55,17 +55,17 @@ module _ (j : Job) (s : List ℤ) (c : List ℕ) where
   unfolding mapRefusal
   map-long e l = sym (job-passed j _ e ∙ rw l)
 
-  pub map-store : judge j ≡ 0 → anyLong (forest j) ≡ false → length s < 7 * nodesOf j → 6 ≡ mapRefusal j s c
+  pub map-store : judge j ≡ 0 → anyLong (forest j) ≡ false → length s < width * nodesOf j → 6 ≡ mapRefusal j s c
   unfolding mapRefusal
-  map-store e l h = sym (job-passed j _ e ∙ rw (l, lt-leb (7 * nodesOf j) (length s) h))
+  map-store e l h = sym (job-passed j _ e ∙ rw (l, lt-leb (width * nodesOf j) (length s) h))
 
-  pub map-space : judge j ≡ 0 → anyLong (forest j) ≡ false → 7 * nodesOf j ≤ length s → length c < cellsOf j → 7 ≡ mapRefusal j s c
+  pub map-space : judge j ≡ 0 → anyLong (forest j) ≡ false → width * nodesOf j ≤ length s → length c < cellsOf j → 7 ≡ mapRefusal j s c
   unfolding mapRefusal
-  map-space e l h m = sym (job-passed j _ e ∙ rw (l, le-leb (7 * nodesOf j) (length s) h, lt-leb (cellsOf j) (length c) m))
+  map-space e l h m = sym (job-passed j _ e ∙ rw (l, le-leb (width * nodesOf j) (length s) h, lt-leb (cellsOf j) (length c) m))
 
-  pub map-passed : judge j ≡ 0 → anyLong (forest j) ≡ false → 7 * nodesOf j ≤ length s → cellsOf j ≤ length c → 0 ≡ mapRefusal j s c
+  pub map-passed : judge j ≡ 0 → anyLong (forest j) ≡ false → width * nodesOf j ≤ length s → cellsOf j ≤ length c → 0 ≡ mapRefusal j s c
   unfolding mapRefusal
-  map-passed e l h m = sym (job-passed j _ e ∙ rw (l, le-leb (7 * nodesOf j) (length s) h, le-leb (cellsOf j) (length c) m))
+  map-passed e l h m = sym (job-passed j _ e ∙ rw (l, le-leb (width * nodesOf j) (length s) h, le-leb (cellsOf j) (length c) m))
 
 -- ---- the count of nodes is 0 for a long job and only there
 told : (b : Bool) (n k : ℕ) → k ≡ cond b 0 n → 1 ≤ n → ((k ≡ 0) → b ≡ true) × ((k ≡ 0 → ⊥) → (b ≡ false) × (k ≡ n))
@@ -88,7 +88,7 @@ pub record Passed (j : Job) (numbers room nodes : ℕ) : Type 0 where
   pub judged : judge j ≡ 0
   pub short : anyLong (forest j) ≡ false
   pub nodes-are : nodes ≡ nodesOf j
-  pub store-fits : 7 * nodesOf j ≤ numbers
+  pub store-fits : width * nodesOf j ≤ numbers
   pub cells-fit : cellsOf j ≤ room
 
 -- the refusal for lent memory of these lengths

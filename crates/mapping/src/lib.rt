@@ -1,4 +1,5 @@
 // The map entry behind the library's face: every check in the order of its number, then the trees, then the map.
+use arithmetic::WIDTH;
 use model::Job;
 use model::Map;
 ghost use mathlib.Core.Path.{_≡_};
@@ -95,7 +96,7 @@ fn go_through(job: Job, numbers: usize, room: usize) -> Checked
     if nodes == 0 {
         return refused(5);
     }
-    if numbers < 7 * nodes {
+    if numbers < WIDTH * nodes {
         return refused(6);
     }
     let side = side_of(job);

@@ -7,9 +7,9 @@ use lib.IntN.{ℤ, pos, natAbs}
 use lib.ListN.{length, getD, set, take, drop}
 use lib.Seq.{take-all, take-suc-set, drop-drop, drop-at}
 use Rattle.model.specs.Trees.{Tree}
-use Rattle.model.specs.Store.{size, flatten, flattenAll}
+use Rattle.model.specs.Store.{width, size, flatten, flattenAll}
 use Rattle.ranges.specs.Sizes.{EachSized}
-use Rattle.search.proofs.Flat.{length-flatten}
+use Rattle.subtrees.specs.Preorder.{length-flatten, countPlace}
 use Rattle.open_edges.specs.Starts.{At, Starts, none, Holds}
 use Rattle.open_edges.specs.Looked.{starts-snoc}
 use Rattle.open_edges.proofs.Asks.{here}
@@ -23,12 +23,12 @@ pub record Ahead (store : List ℤ) (a : ℕ) (ts : List Tree) : Type 0 where
 first-at : (store : List ℤ) (a : ℕ) (t : Tree) (ts : List Tree) → Ahead store a (t ∷ ts) → At store a t
 first-at store a t ts h = record { rest = flattenAll ts ++ h .rest; is = h .is ∙ append-assoc (flatten t) (flattenAll ts) (h .rest); sized = h .sized .0 }
 
-next-ahead : (store : List ℤ) (a : ℕ) (t : Tree) (ts : List Tree) → Ahead store a (t ∷ ts) → Ahead store (a + 7 * size t) ts
+next-ahead : (store : List ℤ) (a : ℕ) (t : Tree) (ts : List Tree) → Ahead store a (t ∷ ts) → Ahead store (a + width * size t) ts
 next-ahead store a t ts h = record {
   rest = h .rest;
   is =
-      sym (drop-drop (7 * size t) a store) ∙ ap (λ l. drop (7 * size t) l) (h .is ∙ append-assoc (flatten t) (flattenAll ts) (h .rest))
-      ∙ drop-at (flatten t) (flattenAll ts ++ h .rest) (7 * size t) (length-flatten t);
+      sym (drop-drop (width * size t) a store) ∙ ap (λ l. drop (width * size t) l) (h .is ∙ append-assoc (flatten t) (flattenAll ts) (h .rest))
+      ∙ drop-at (flatten t) (flattenAll ts ++ h .rest) (width * size t) (length-flatten t);
   sized = h .sized .1;
 }
 
@@ -55,7 +55,7 @@ begin store count ts list h = record { done = none; ahead = record { rest = h .r
 pub record Step (store : List ℤ) (ts : List Tree) (list : List ℕ) (a e : ℕ) : Type 0 where
   pub tree : Tree
   pub at : At store a tree
-  pub listed : (n : ℕ) → n ≡ natAbs (getD store (a + 6) (pos 0)) → Listed store ts (set list e a) (a + 7 * n) (e + 1)
+  pub listed : (n : ℕ) → n ≡ natAbs (getD store (a + countPlace) (pos 0)) → Listed store ts (set list e a) (a + width * n) (e + 1)
 
 pub step : (store : List ℤ) (ts : List Tree) (list : List ℕ) (a e : ℕ) → e < length ts → e < length list → Listed store ts list a e → Step store ts list a e
 step store ts list a e l m h =
@@ -70,9 +70,9 @@ step store ts list a e l m h =
           let d : Starts store (take (suc e) (set list e a)) (take (suc e) ts) =
           subst (λ us. Starts store (take (suc e) (set list e a)) us) (sym (x .sooner))
           (subst (λ ps. Starts store ps (take e ts ++ (x .tree ∷ []))) (sym (take-suc-set list e a m)) (starts-snoc (h .done) at)) in
-          let b : Ahead store (a + 7 * n) (drop (suc e) ts) = subst (λ k. Ahead store (a + 7 * k) (drop (suc e) ts)) (sym i) (next-ahead store a (x .tree) (drop (suc e) ts) next) in
-          let r : Listed store ts (set list e a) (a + 7 * n) (suc e) = record { done = d; ahead = b } in
-          subst (λ k. Listed store ts (set list e a) (a + 7 * n) k) (one-more e) r;
+          let b : Ahead store (a + width * n) (drop (suc e) ts) = subst (λ k. Ahead store (a + width * k) (drop (suc e) ts)) (sym i) (next-ahead store a (x .tree) (drop (suc e) ts) next) in
+          let r : Listed store ts (set list e a) (a + width * n) (suc e) = record { done = d; ahead = b } in
+          subst (λ k. Listed store ts (set list e a) (a + width * n) k) (one-more e) r;
     }
   where
     one-more : (e : ℕ) → suc e ≡ e + 1

@@ -1,5 +1,7 @@
 // The edges that are open for a cell: where their trees start in the store, and the loop that asks each of them and keeps those that are not
 // away, so that no part of the cell asks them again.
+use arithmetic::COUNT;
+use arithmetic::WIDTH;
 ghost use mathlib.Core.Path.{_≡_};
 ghost use mathlib.Core.Bool.{true, false};
 ghost use mathlib.Core.List.{List};
@@ -9,7 +11,7 @@ ghost use Rattle.model.specs.Trees.{Tree};
 ghost use Rattle.model.specs.Explore.{verdict, explore, exploreAll, inside};
 ghost use Rattle.inheritance.specs.Edges.{opened};
 ghost use Rattle.strip_tests.specs.PlainTests.{code};
-ghost use Rattle.search.specs.Held.{CellSized, cellAt, Enough};
+ghost use Rattle.search.specs.Cells.{CellSized, cellAt, Enough};
 ghost use Rattle.open_edges.specs.Starts.{At, TreeAt, Starts, Forest, Holds, AnyHeld};
 
 // the answer of the tree that starts at place a
@@ -17,8 +19,8 @@ fn ask(store: &[i32], a: usize, x: i64, y: i64, s: i64, r: i64, enough: u8) -> u
     requires { ⌜ TreeAt (now store) a × CellSized x y s r × Enough x y s r enough ⌝ }
     ensures answer { λ e. ⌜ ((t : Tree) → At (now (store .entry)) a t → e ≡ code (explore (verdict r (cellAt x y s)) t)) ⌝ }
 {
-    let n = arithmetic::count_at(store, a + 6);
-    let b = a + 7 * n;
+    let n = arithmetic::count_at(store, a + COUNT);
+    let b = a + WIDTH * n;
     search::search(&store[a..b], x, y, s, r, enough)
 }
 
@@ -78,7 +80,7 @@ pub fn list_starts(store: &[i32], count: usize, list: &mut [usize; 64])
     let mut e: usize = 0;
     while e < count {
         list[e] = at;
-        at += 7 * arithmetic::count_at(store, at + 6);
+        at += WIDTH * arithmetic::count_at(store, at + COUNT);
         e += 1;
     }
 }

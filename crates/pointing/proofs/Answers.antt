@@ -106,10 +106,10 @@ module _ (j : Job) (x y : ℤ) (store : List ℤ) where
       pub few-nodes : n ≤ 131072
       few-nodes = omega (arith, nodes-are, forest-few j (p .job))
 
-      pub store-6 : length store < 7 * n → pointRefusal j x y store ≡ 6
+      pub store-6 : length store < width * n → pointRefusal j x y store ≡ 6
       store-6 l = p .is ∙ rw (none-long, lt-leb (width * nodesOf j) (length store) (omega (arith, nodes-are)))
 
-      module _ (l : 7 * n ≤ length store) (b : Bool) (i : b ≡ begins store (storeOf j)) where
+      module _ (l : width * n ≤ length store) (b : Bool) (i : b ≡ begins store (storeOf j)) where
         room : leb (width * nodesOf j) (length store) ≡ true
         room = le-leb (width * nodesOf j) (length store) (omega (arith, nodes-are))
 

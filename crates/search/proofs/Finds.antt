@@ -11,10 +11,10 @@ use Rattle.model.specs.Strips.{Strip}
 use Rattle.model.specs.Trees.{Tree, leaf, long, node}
 use Rattle.model.specs.Explore.{Answer, inside, away, maybe, explore, join, settle}
 use Rattle.strip_tests.specs.PlainTests.{code}
-use Rattle.model.specs.Store.{flatten}
+use Rattle.model.specs.Store.{width, flatten}
 use Rattle.ranges.specs.Sizes.{Sized, AllSized}
-use Rattle.search.specs.Held.{stripAt}
-use Rattle.search.proofs.Flat.{size-pos, Halves, halves, kept′}
+use Rattle.subtrees.specs.Preorder.{size-pos, countPlace}
+use Rattle.subtrees.specs.Halves.{stripIn, Halves, halves, parts}
 
 pub join-is : (a b : Answer) → cond (ltb (code a) (code b)) (code b) (code a) ≡ code (join a b)
 join-is inside inside = refl
@@ -70,7 +70,7 @@ module _ (v : Strip → Answer) where
       let hb = most e f b (k .2) in
       settle-most (v s) (join (explore v a) (explore v b)) e (f s (k .0)) (join-most (explore v a) (explore v b) e ha hb)
 
-  pub closed : (l : List ℤ) (h : ℕ) → h ≡ code (v (stripAt l)) → (h ≡ 1 → ⊥) → (t : Tree) → l ≡ flatten t → h ≡ code (explore v t)
+  pub closed : (l : List ℤ) (h : ℕ) → h ≡ code (v (stripIn l)) → (h ≡ 1 → ⊥) → (t : Tree) → l ≡ flatten t → h ≡ code (explore v t)
   unfolding explore
   closed l h e n (leaf s) k = rw k at e
   closed l h e n (long s) k = rw k at e
@@ -78,21 +78,21 @@ module _ (v : Strip → Answer) where
       let e′ : h ≡ code (v s) = rw k at e in
       e′ ∙ settled (v s) (join (explore v a) (explore v b)) (λ m. n (e′ ∙ m))
 
-  pub one : (l : List ℤ) → code (v (stripAt l)) ≡ 1 → natAbs (getD l 6 (pos 0)) ≡ 1 → (t : Tree) → l ≡ flatten t → 1 ≡ code (explore v t)
+  pub one : (l : List ℤ) → code (v (stripIn l)) ≡ 1 → natAbs (getD l countPlace (pos 0)) ≡ 1 → (t : Tree) → l ≡ flatten t → 1 ≡ code (explore v t)
   unfolding explore
   one l h m (leaf s) e = sym (rw e at h)
   one l h m (long s) e = sym (rw e at h)
   one l h m (node s a b) e = absurd (omega (arith, rw e at m, size-pos a))
 
-  pub both : (l : List ℤ) (n x : ℕ) → code (v (stripAt l)) ≡ 1 → (natAbs (getD l 6 (pos 0)) ≡ 1 → ⊥) → n ≡ natAbs (getD l 13 (pos 0))
-      → ((a b : Tree) → AllSized a → AllSized b → take (7 + 7 * n - 7) (drop 7 l) ≡ flatten a → take (length l - (7 + 7 * n)) (drop (7 + 7 * n) l) ≡ flatten b → x ≡ code (join (explore v a) (explore v b)))
+  pub both : (l : List ℤ) (n x : ℕ) → code (v (stripIn l)) ≡ 1 → (natAbs (getD l countPlace (pos 0)) ≡ 1 → ⊥) → n ≡ natAbs (getD l (width + countPlace) (pos 0))
+      → ((a b : Tree) → AllSized a → AllSized b → take (width + width * n - width) (drop width l) ≡ flatten a → take (length l - (width + width * n)) (drop (width + width * n) l) ≡ flatten b → x ≡ code (join (explore v a) (explore v b)))
       → (t : Tree) → AllSized t → l ≡ flatten t → x ≡ code (explore v t)
   unfolding explore
   both l n x h m k f (leaf s) z e = absurd (m (rw e refl))
   both l n x h m k f (long s) z e = absurd (m (rw e refl))
   both l n x h m k f (node s a b) z e =
       let w : Halves l a b = rw e (halves s a b) in
-      let d = kept′ a b n (natAbs (getD l 6 (pos 0))) w (k ∙ ap natAbs (w .count-left)) refl in
+      let d = parts a b n (natAbs (getD l countPlace (pos 0))) w (k ∙ ap natAbs (w .count-left)) refl in
       let h′ : code (v s) ≡ 1 = rw e at h in
       f a b (z .1) (z .2) (d .part-left) (d .part-right) ∙ sym (open-is (v s) (join (explore v a) (explore v b)) h′)
 

@@ -15,7 +15,7 @@ use Rattle.model.specs.Strips.{Side}
 use Rattle.model.specs.Explore.{Answer, inside, away, maybe, farthest, isInside, judge, verdict}
 use Rattle.strip_tests.specs.PlainTests.{code}
 use Rattle.ranges.specs.Sizes.{SideSized}
-use Rattle.search.specs.Held.{cellAt, Enough}
+use Rattle.search.specs.Cells.{cellAt, Enough}
 
 -- a number whose sign says that it is not below 0
 pub nonneg : (z : ℤ) → T (nonNeg z) → pos 0 ≼ z

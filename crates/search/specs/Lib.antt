@@ -1,2 +1,2 @@
--- Parts of the store that hold a tree.
-pub mod Held
+-- The cells that a search is asked of.
+pub mod Cells

@@ -1,5 +1,8 @@
 // A cell's answer from one edge's part of the store, by recursion on the two subtrees of a node. Answers are 0 away, 1 maybe, 2 inside, as
 // `code` gives them, so that joined the larger holds.
+use arithmetic::COUNT;
+use arithmetic::LEFT_COUNT;
+use arithmetic::WIDTH;
 use arithmetic::count_at;
 use arithmetic::wide_at;
 ghost use mathlib.Core.Path.{_≡_};
@@ -10,16 +13,17 @@ ghost use lib.Signed.{nonNeg};
 ghost use lib.Dec.{T, ltb};
 ghost use lib.ListN.{length, getD};
 ghost use Rattle.model.specs.Trees.{Tree};
-ghost use Rattle.model.specs.Store.{flatten};
+ghost use Rattle.model.specs.Store.{width, flatten};
 ghost use Rattle.model.specs.Explore.{verdict, explore};
 ghost use Rattle.ranges.specs.Sizes.{Sized, AllSized};
 ghost use Rattle.strip_tests.specs.PlainTests.{code};
-ghost use Rattle.search.specs.Held.{CellSized, stripAt, cellAt, TreeOf, Enough};
+ghost use Rattle.subtrees.specs.Halves.{stripIn, TreeOf};
+ghost use Rattle.search.specs.Cells.{CellSized, cellAt, Enough};
 
 // the answer of the first node of part by itself
 fn own(part: &[i32], x: i64, y: i64, s: i64, r: i64) -> u8
-    requires { ⌜ (7 ≤ length (now part)) × Sized (stripAt (now part)) × CellSized x y s r ⌝ }
-    ensures answer { λ a. ⌜ a ≡ code (verdict r (cellAt x y s) (stripAt (now (part .entry)))) ⌝ }
+    requires { ⌜ (width ≤ length (now part)) × Sized (stripIn (now part)) × CellSized x y s r ⌝ }
+    ensures answer { λ a. ⌜ a ≡ code (verdict r (cellAt x y s) (stripIn (now (part .entry)))) ⌝ }
 {
     let wx = x - wide_at(part, 0);
     let wy = y - wide_at(part, 1);
@@ -45,13 +49,13 @@ pub fn search(part: &[i32], x: i64, y: i64, s: i64, r: i64, enough: u8) -> u8
     if here != 1 {
         return here;
     }
-    let n = count_at(part, 6);
+    let n = count_at(part, COUNT);
     if n == 1 {
         return 1;
     }
-    let nl = count_at(part, 13);
-    let mid = 7 + 7 * nl;
-    let left = search(&part[7..mid], x, y, s, r, enough);
+    let nl = count_at(part, LEFT_COUNT);
+    let mid = WIDTH + WIDTH * nl;
+    let left = search(&part[WIDTH..mid], x, y, s, r, enough);
     if enough <= left {
         return left;
     }

@@ -3,7 +3,7 @@ use native.Mathlib.Omega.{arith}
 use mir.Facts.{toZ-ofZ}
 use mir.Syntax.{w64}
 use mir.Val.{toZ, ofZ}
-use Rattle.search.specs.Held.{CellSized, Enough}
+use Rattle.search.specs.Cells.{CellSized, Enough}
 use Rattle.open_edges.proofs.Asks.{front, Here, here}
 use borrow.Author.Needs.{needs}
 use Rattle.open_edges.proofs.ask.Statement.{statement}

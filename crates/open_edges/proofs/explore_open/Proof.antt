@@ -13,7 +13,7 @@ use mir.Syntax.{w64}
 use mir.Val.{toZ, ofZ}
 use mir.Facts.{toZ-ofZ}
 use Rattle.model.specs.Explore.{Answer, inside, verdict, explore, exploreAll}
-use Rattle.search.specs.Held.{CellSized, cellAt}
+use Rattle.search.specs.Cells.{CellSized, cellAt}
 use Rattle.open_edges.specs.Starts.{Starts}
 use Rattle.open_edges.specs.Looked.{Looked, begin, next-away, next-maybe, last-inside, tree-at, finish, is-inside, is-maybe, is-away}
 use Rattle.open_edges.proofs.explore_open.Statement.{statement}

@@ -14,10 +14,11 @@ use Rattle.model.specs.Strips.{Strip}
 use Rattle.model.specs.Trees.{Tree}
 use Rattle.model.specs.Explore.{Answer, verdict, explore}
 use Rattle.strip_tests.specs.PlainTests.{code}
-use Rattle.model.specs.Store.{flatten}
+use Rattle.model.specs.Store.{width, flatten}
 use Rattle.ranges.specs.Sizes.{AllSized}
-use Rattle.search.specs.Held.{CellSized, Enough, cellAt, stripAt}
-use Rattle.search.proofs.Flat.{front, counted, first-sized, split, thirteen, Read, kept, below}
+use Rattle.subtrees.specs.Preorder.{countPlace}
+use Rattle.subtrees.specs.Halves.{stripIn, front, first-sized, counted, split, left-counted, Read, read, below}
+use Rattle.search.specs.Cells.{CellSized, Enough, cellAt}
 use Rattle.search.proofs.Finds.{join-is, most, closed, one, both, stop}
 use Prim.Native.Nat.{ℕ, _<_}
 use borrow.Fn.Kinds.{In}
@@ -32,7 +33,7 @@ use Rattle.search.proofs.+search.{statement}
 use Rattle.search.proofs.+search.Tie.{close}
 
 abbrev μ-search : Measures 1 search-kinds.ps ℕ
-μ-search κs a = natAbs (getD (a .0 .now) 6 (pos 0))
+μ-search κs a = natAbs (getD (a .0 .now) countPlace (pos 0))
 
 abbrev search-at : ℕ → In 1 search-kinds.ps
 search-at t = and 1 search-kinds.ps (is 1 search-kinds.ps μ-search t) search′.Pre
@@ -58,26 +59,26 @@ enough : (t : ℕ) (c : search-lts.Start (callees t) (search-at t) search′.Pos
 enough t c = rw (toZ-ofZ (c .fits .x), toZ-ofZ (c .fits .y), toZ-ofZ (c .fits .s), toZ-ofZ (c .fits .r)) (c .pre .1 .2)
 
 -- the node's own answer
-own-is : (t : ℕ) (c : search-lts.After-own (callees t) (search-at t) search′.Post) → c .own .result ≡ code (by t (c .before) (stripAt (list t (c .before))))
+own-is : (t : ℕ) (c : search-lts.After-own (callees t) (search-at t) search′.Post) → c .own .result ≡ code (by t (c .before) (stripIn (list t (c .before))))
 own-is t c = let s = c .before in rw (toZ-ofZ (s .fits .x), toZ-ofZ (s .fits .y), toZ-ofZ (s .fits .s), toZ-ofZ (s .fits .r)) at (c .own .ensures)
 
-maybe-is : (t : ℕ) (c : search-lts.Else1 (callees t) (search-at t) search′.Post) → code (by t (c .before .before) (stripAt (list t (c .before .before)))) ≡ 1
+maybe-is : (t : ℕ) (c : search-lts.Else1 (callees t) (search-at t) search′.Post) → code (by t (c .before .before) (stripIn (list t (c .before .before)))) ≡ 1
 maybe-is t c = sym (own-is t (c .before)) ∙ c .if1 .left
 
-not-one : (t : ℕ) (c : search-lts.Else2 (callees t) (search-at t) search′.Post) → natAbs (getD (list t (c .before .before .before .before)) 6 (pos 0)) ≡ 1 → ⊥
+not-one : (t : ℕ) (c : search-lts.Else2 (callees t) (search-at t) search′.Post) → natAbs (getD (list t (c .before .before .before .before)) countPlace (pos 0)) ≡ 1 → ⊥
 not-one t c e = c .if2 .left (c .before .count-at .ensures ∙ e)
 
 -- what the counts tell
 counts : (t : ℕ) (c : search-lts.After-count-at2 (callees t) (search-at t) search′.Post) → Read (list t (c .before .before .before .before .before)) (c .count-at2 .result) t
 counts t c =
     let s = c .before .before .before .before .before in
-    kept (c .count-at2 .result) t (s .pre .1 .0) (not-one t (c .before)) (c .count-at2 .ensures) (s .pre .0)
+    read (c .count-at2 .result) t (s .pre .1 .0) (not-one t (c .before)) (c .count-at2 .ensures) (s .pre .0)
 
 -- what the calls found
-left-is : (t : ℕ) (c : search-lts.After-search (callees t) (search-at t) search′.Post) (a : Tree) → AllSized a → take (7 + 7 * (c .before .before .count-at2 .result) - 7) (drop 7 (list t (c .before .before .before .before .before .before .before))) ≡ flatten a → c .search .result ≡ code (explore (by t (c .before .before .before .before .before .before .before)) a)
+left-is : (t : ℕ) (c : search-lts.After-search (callees t) (search-at t) search′.Post) (a : Tree) → AllSized a → take (width + width * c .before .before .count-at2 .result - width) (drop width (list t (c .before .before .before .before .before .before .before))) ≡ flatten a → c .search .result ≡ code (explore (by t (c .before .before .before .before .before .before .before)) a)
 left-is t c a f e = let s = c .before .before .before .before .before .before .before in rw (toZ-ofZ (s .fits .x), toZ-ofZ (s .fits .y), toZ-ofZ (s .fits .s), toZ-ofZ (s .fits .r)) at (c .search .ensures a f e)
 
-right-is : (t : ℕ) (c : search-lts.After-search2 (callees t) (search-at t) search′.Post) (a : Tree) → AllSized a → take (length (list t (c .before .before .before .before .before .before .before .before .before .before)) - (7 + 7 * (c .before .before .before .before .before .count-at2 .result))) (drop (7 + 7 * (c .before .before .before .before .before .count-at2 .result)) (list t (c .before .before .before .before .before .before .before .before .before .before))) ≡ flatten a → c .search2 .result ≡ code (explore (by t (c .before .before .before .before .before .before .before .before .before .before)) a)
+right-is : (t : ℕ) (c : search-lts.After-search2 (callees t) (search-at t) search′.Post) (a : Tree) → AllSized a → take (length (list t (c .before .before .before .before .before .before .before .before .before .before)) - (width + width * c .before .before .before .before .before .count-at2 .result)) (drop (width + width * c .before .before .before .before .before .count-at2 .result) (list t (c .before .before .before .before .before .before .before .before .before .before))) ≡ flatten a → c .search2 .result ≡ code (explore (by t (c .before .before .before .before .before .before .before .before .before .before)) a)
 right-is t c a f e = let s = c .before .before .before .before .before .before .before .before .before .before in rw (toZ-ofZ (s .fits .x), toZ-ofZ (s .fits .y), toZ-ofZ (s .fits .s), toZ-ofZ (s .fits .r)) at (c .search2 .ensures a f e)
 
 -- no tree answers above what is enough
@@ -98,7 +99,7 @@ search-returns-2 : (t : ℕ) → search-lts.Need-returns-2 (callees t) (search-a
 search-returns-2 t c = λ u f e. let s = c .before .before .before .before in one (by t s) (list t s) (maybe-is t (c .before .before)) (sym (c .before .count-at .ensures) ∙ c .if2 .taken) u e
 
 search-count-at-requires-2 : (t : ℕ) → search-lts.Need-count-at-requires-2 (callees t) (search-at t) search′.Post
-search-count-at-requires-2 t c κs = thirteen (split (c .before .before .before .before .pre .1 .0) (not-one t c))
+search-count-at-requires-2 t c κs = left-counted (split (c .before .before .before .before .pre .1 .0) (not-one t c))
 
 search-mul-mid : (t : ℕ) → search-lts.Need-mul-mid (callees t) (search-at t) search′.Post
 search-mul-mid t c = let k = counts t c in omega (arith, k .has .long)
@@ -116,7 +117,7 @@ search-part-search-end : (t : ℕ) → search-lts.Need-part-search-end (callees 
 search-part-search-end t c = let k = counts t c in omega (arith, k .has .long)
 
 search-search-requires : (t : ℕ) → search-lts.Need-search-requires (callees t) (search-at t) search′.Post
-search-search-requires t c κs = let k = counts t (c .before) in (below (k .left) _ t (k .has .part-left) (omega (arith, k .has .t-is)), (record { tree = k .left; is = k .has .part-left; sized = k .left-sized }, cell t (c .before .before .before .before .before .before), enough t (c .before .before .before .before .before .before)))
+search-search-requires t c κs = let k = counts t (c .before) in (below (k .left) _ t (k .has .part-left) (omega (arith, k .has .k-is)), (record { tree = k .left; is = k .has .part-left; sized = k .left-sized }, cell t (c .before .before .before .before .before .before), enough t (c .before .before .before .before .before .before)))
 
 search-returns-3 : (t : ℕ) → search-lts.Need-returns-3 (callees t) (search-at t) search′.Post
 search-returns-3 t c = let m = c .before .before .before in let s = c .before .before .before .before .before .before .before .before in both (by t s) (list t s) (m .count-at2 .result) (c .before .search .result) (maybe-is t (m .before .before .before)) (not-one t (m .before)) (m .count-at2 .ensures) (λ l r fl fr el er. stop (explore (by t s) l) (explore (by t s) r) (c .before .search .result) (s .args .enough) (left-is t (c .before) l fl el) (c .if3 .taken) (at-most t s r fr))
@@ -134,7 +135,7 @@ search-part-search-end-2 : (t : ℕ) → search-lts.Need-part-search-end-2 (call
 search-part-search-end-2 t c = omega arith
 
 search-search-requires-2 : (t : ℕ) → search-lts.Need-search-requires-2 (callees t) (search-at t) search′.Post
-search-search-requires-2 t c κs = let k = counts t (c .before .before .before .before) in (below (k .right) _ t (k .has .part-right) (omega (arith, k .has .t-is)), (record { tree = k .right; is = k .has .part-right; sized = k .right-sized }, cell t (c .before .before .before .before .before .before .before .before .before), enough t (c .before .before .before .before .before .before .before .before .before)))
+search-search-requires-2 t c κs = let k = counts t (c .before .before .before .before) in (below (k .right) _ t (k .has .part-right) (omega (arith, k .has .k-is)), (record { tree = k .right; is = k .has .part-right; sized = k .right-sized }, cell t (c .before .before .before .before .before .before .before .before .before), enough t (c .before .before .before .before .before .before .before .before .before)))
 
 search-join-requires : (t : ℕ) → search-lts.Need-join-requires (callees t) (search-at t) search′.Post
 search-join-requires t c κs = tt

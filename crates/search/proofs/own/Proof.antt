@@ -4,7 +4,8 @@ use lib.IntN.{pos}
 use mathlib.Core.Path.{_∙_, ap}
 use lib.ListN.{getD}
 use Rattle.strip_tests.specs.PlainTests.{code, judge-is}
-use Rattle.search.specs.Held.{cellAt, stripAt}
+use Rattle.subtrees.specs.Halves.{stripIn}
+use Rattle.search.specs.Cells.{cellAt}
 use borrow.Author.Needs.{needs}
 use Rattle.search.proofs.own.Statement.{statement}
 use Rattle.search.proofs.own.Tie as tie
@@ -85,7 +86,7 @@ judge-requires c κs =
     })
 
 returns : tie.Need-returns
-returns c = let d = (c .before .before .before .before .before .before .before) in (rw (back (minus (x (c .before .before .before .before .before .before .before)) (z0 (c .before .before .before .before .before .before)) tt), back (minus (y (c .before .before .before .before .before .before .before)) (z1 (c .before .before .before .before .before)) tt), back (z2 (c .before .before .before .before)), back (z3 (c .before .before .before)), back (plus (z4 (c .before .before)) (s (c .before .before .before .before .before .before .before)) tt), back (plus (z5 (c .before)) (s (c .before .before .before .before .before .before .before)) tt), back (r (c .before .before .before .before .before .before .before))) at (c .judge .ensures)) ∙ ap code (judge-is (d .args .r) (cellAt (d .args .x) (d .args .y) (d .args .s)) (stripAt (d .args .part .now)))
+returns c = let d = (c .before .before .before .before .before .before .before) in (rw (back (minus (x (c .before .before .before .before .before .before .before)) (z0 (c .before .before .before .before .before .before)) tt), back (minus (y (c .before .before .before .before .before .before .before)) (z1 (c .before .before .before .before .before)) tt), back (z2 (c .before .before .before .before)), back (z3 (c .before .before .before)), back (plus (z4 (c .before .before)) (s (c .before .before .before .before .before .before .before)) tt), back (plus (z5 (c .before)) (s (c .before .before .before .before .before .before .before)) tt), back (r (c .before .before .before .before .before .before .before))) at (c .judge .ensures)) ∙ ap code (judge-is (d .args .r) (cellAt (d .args .x) (d .args .y) (d .args .s)) (stripIn (d .args .part .now)))
 
 pub own-spec : {M : Type 1} → statement M
 own-spec =
