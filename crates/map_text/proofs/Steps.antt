@@ -62,60 +62,44 @@ rows-snoc n (suc k) cs =
     ∙ sym (append-assoc (rowText (take n cs)) (rowsText n k (drop n cs)) (rowText (take n (drop (k * n) (drop n cs)))))
     ∙ ap (λ t. (rowText (take n cs) ++ rowsText n k (drop n cs)) ++ rowText (take n t)) (drop-drop (k * n) n cs ∙ ap (λ m. drop m cs) (let z : n + k * n ≡ suc k * n = omega arith in z))
 
--- the rows from `from` up to j are written
-pub record Rows (before after : List ℕ) (at i : ℕ) (cells : List ℕ) (n from j : ℕ) : Type 0 where
-  pub placed : Put before after at i (rowsText n (j - from) (drop (from * n) cells))
-  pub here : i ≡ at + (j - from) * (n + 7)
+-- j rows are written
+pub record Rows (before after : List ℕ) (at i : ℕ) (cells : List ℕ) (n j : ℕ) : Type 0 where
+  pub placed : Put before after at i (rowsText n j cells)
+  pub here : i ≡ at + j * (n + 7)
   pub same-length : length after ≡ length before
-  pub started : from ≤ j
 
-pub no-rows : (out cells : List ℕ) (at n from : ℕ) → Rows out out at at cells n from from
-no-rows out cells at n from = record {
-  placed = let z : 0 ≡ from - from = omega arith in subst (λ k. Put out out at at (rowsText n k (drop (from * n) cells))) z (unfold rowsText in put-none out at);
-  here = let z : from - from ≡ 0 = omega arith in rw z (omega arith);
-  same-length = refl;
-  started = omega arith;
-}
+pub no-rows : (out cells : List ℕ) (at n : ℕ) → Rows out out at at cells n 0
+unfolding rowsText
+no-rows out cells at n = record { placed = put-none out at; here = omega arith; same-length = refl }
 
-in-cells : (n j to : ℕ) → j < to → to ≤ n → j * n + n ≤ n * n
-in-cells n j to h k = let l : suc j ≤ n = omega arith in omega (arith, mul-le-mul-right n l)
-
-more : (n from j : ℕ) → from ≤ j → j + 1 - from ≡ suc (j - from)
-more n from j h = omega arith
+in-cells : (n j : ℕ) → j < n → j * n + n ≤ n * n
+in-cells n j h = let l : suc j ≤ n = omega arith in omega (arith, mul-le-mul-right n l)
 
 -- places in a map of 256 cells a side at the most
-pub few-cells : (n j to : ℕ) → n ≤ 256 → j < to → to ≤ n → j * n + n ≤ 65536
-few-cells n j to h k l = omega (arith, in-cells n j to k l, mul-le-mul h h)
+pub few-cells : (n j : ℕ) → n ≤ 256 → j < n → j * n + n ≤ 65536
+few-cells n j h k = omega (arith, in-cells n j k, mul-le-mul h h)
 
-pub row-fits : (at n from j to i room : ℕ) → i ≡ at + (j - from) * (n + 7) → from ≤ j → j < to → at + (to - from) * (n + 7) ≤ room → i + n + 7 ≤ room
-row-fits at n from j to i room e f l h = let m : suc (j - from) ≤ to - from = omega arith in omega (arith, mul-le-mul-right (n + 7) m)
+pub row-fits : (at n j i room : ℕ) → i ≡ at + j * (n + 7) → j < n → at + n * (n + 7) ≤ room → i + n + 7 ≤ room
+row-fits at n j i room e l h = let m : suc j ≤ n = omega arith in omega (arith, mul-le-mul-right (n + 7) m)
 
-module _ (cells : List ℕ) (n j to : ℕ) (jt : j < to) (tn : to ≤ n) (room : n * n ≤ length cells) where
+module _ (cells : List ℕ) (n j : ℕ) (jn : j < n) (room : n * n ≤ length cells) where
   pub part-end : j * n + n ≤ length cells
-  part-end = omega (arith, in-cells n j to jt tn)
+  part-end = omega (arith, in-cells n j jn)
 
   pub row-length : length (take n (drop (j * n) cells)) ≡ n
   row-length = length-take-le n (drop (j * n) cells) (rw length-drop (omega (arith, part-end)))
 
-module _ (before after : List ℕ) (at i : ℕ) (cells : List ℕ) (n from j to : ℕ) (r : Rows before after at i cells n from j) (jt : j < to) (tn : to ≤ n) (room : n * n ≤ length cells) where
-  pub next-row : (last : List ℕ) (k : ℕ) (row : List ℕ) → Put after last i k (rowText row) → length last ≡ length after → row ≡ take n (drop (j * n) cells) → Rows before last at k cells n from (j + 1)
+module _ (before after : List ℕ) (at i : ℕ) (cells : List ℕ) (n j : ℕ) (r : Rows before after at i cells n j) (jn : j < n) (room : n * n ≤ length cells) where
+  pub next-row : (last : List ℕ) (k : ℕ) (row : List ℕ) → Put after last i k (rowText row) → length last ≡ length after → row ≡ take n (drop (j * n) cells) → Rows before last at k cells n (j + 1)
   next-row last k row p l e =
-      let rest : take n (drop ((j - from) * n) (drop (from * n) cells)) ≡ take n (drop (j * n) cells) = ap (take n) (drop-drop ((j - from) * n) (from * n) cells ∙ ap (λ m. drop m cells) (across from j n (r .started))) in
-      let t : rowsText n (j - from) (drop (from * n) cells) ++ rowText row ≡ rowsText n (j + 1 - from) (drop (from * n) cells) =
-      ap (λ u. rowsText n (j - from) (drop (from * n) cells) ++ rowText u) (e ∙ sym rest) ∙ sym (rows-snoc n (j - from) (drop (from * n) cells)) ∙ ap (λ m. rowsText n m (drop (from * n) cells)) (sym (more n from j (r .started))) in
-      let long : length row ≡ n = ap length e ∙ row-length cells n j to jt tn room in
+      let t : rowsText n j cells ++ rowText row ≡ rowsText n (j + 1) cells =
+      ap (λ u. rowsText n j cells ++ rowText u) e ∙ sym (rows-snoc n j cells) ∙ ap (λ m. rowsText n m cells) (sym (add-one j)) in
+      let long : length row ≡ n = ap length e ∙ row-length cells n j jn room in
       record {
-        placed = subst (Put before last at k) t (put-then before after last at i k (rowsText n (j - from) (drop (from * n) cells)) (rowText row) (r .placed) p);
-        here = p .next-is ∙ rw (row-long row, long, more n from j (r .started)) (omega (arith, r .here));
+        placed = subst (Put before last at k) t (put-then before after last at i k (rowsText n j cells) (rowText row) (r .placed) p);
+        here = p .next-is ∙ rw (row-long row, long) (omega (arith, r .here));
         same-length = l ∙ r .same-length;
-        started = omega (arith, r .started);
       }
-    where
-      across : (from j n : ℕ) → from ≤ j → from * n + (j - from) * n ≡ j * n
-      across from j n h = go from (j - from) j (omega arith)
-        where
-          go : (a b c : ℕ) → a + b ≡ c → a * n + b * n ≡ c * n
-          go a b c e = rw (← e) (omega arith)
 
 -- ---- a form with one number
 pub form-put : (F a b : List ℕ) (at r n : ℕ) (v : ℤ) → Put a b at r (writeForm F (v ∷ [])) → v ≡ pos n → Put a b at r (writeForm F (pos n ∷ []))
@@ -126,16 +110,10 @@ pub row-part : (cells : List ℕ) (a n : ℕ) → take (a + n - a) (drop a cells
 row-part cells a n = let z : a + n - a ≡ n = omega arith in rw z
 
 -- ---- a whole map: 14 bytes for its first line, 263 for each of 256 rows, 2 for its end
-pub rows-fit : (a n : ℕ) → n ≤ 256 → a ≤ 14 → a + (n - 0) * (n + 7) + 2 ≤ 67344
-rows-fit a n h k =
-    let w : n + 7 ≤ 263 = omega arith in
-    let z : n - 0 ≡ n = omega arith in
-    rw z (omega (arith, mul-le-mul h w))
+pub rows-fit : (a n : ℕ) → n ≤ 256 → a ≤ 14 → a + n * (n + 7) + 2 ≤ 67344
+rows-fit a n h k = let w : n + 7 ≤ 263 = omega arith in omega (arith, mul-le-mul h w)
 
-pub map-put : (a b c d : List ℕ) (i k next n : ℕ) (cells : List ℕ) → Put a b 0 i (writeForm mapForm (pos n ∷ [])) → Put b c i k (rowsText n (n - 0) (drop (0 * n) cells)) → Put c d k next (bytes ")\n") → Put a d 0 next (mapText n cells)
+pub map-put : (a b c d : List ℕ) (i k next n : ℕ) (cells : List ℕ) → Put a b 0 i (writeForm mapForm (pos n ∷ [])) → Put b c i k (rowsText n n cells) → Put c d k next (bytes ")\n") → Put a d 0 next (mapText n cells)
 unfolding mapText
 map-put a b c d i k next n cells p q r =
-    let z : n - 0 ≡ n = omega arith in
-    let w : 0 * n ≡ 0 = omega arith in
-    let s : Put b c i k (rowsText n n cells) = subst (λ m. Put b c i k (rowsText n n (drop m cells))) w (subst (λ m. Put b c i k (rowsText n m (drop (0 * n) cells))) z q) in
-    put-then a b d 0 i next (writeForm mapForm (pos n ∷ [])) (rowsText n n cells ++ bytes ")\n") p (put-then b c d i k next (rowsText n n cells) (bytes ")\n") s r)
+    put-then a b d 0 i next (writeForm mapForm (pos n ∷ [])) (rowsText n n cells ++ bytes ")\n") p (put-then b c d i k next (rowsText n n cells) (bytes ")\n") q r)

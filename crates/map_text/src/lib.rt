@@ -2,12 +2,12 @@
 // and gives the position after what it wrote. Document 01, "The job sheet".
 ghost use mathlib.Core.Path.{_≡_};
 ghost use mathlib.Core.List.{[], _∷_};
-ghost use Prim.Native.Nat.{_+_, _*_, _-_, _≤_, _<_};
+ghost use Prim.Native.Nat.{_+_, _*_, _≤_};
 ghost use lib.IntN.{pos};
-ghost use lib.ListN.{length, drop};
-ghost use Rattle.model.specs.Bytes.{bytes};
+ghost use lib.ListN.{length};
 ghost use Rattle.model.specs.Forms.{writeForm};
 ghost use Rattle.model.specs.Printing.{refusedForm, mapForm, rowText, rowsText, mapText};
+ghost use Rattle.sheet_text.specs.Forms.{marks, weight};
 ghost use Rattle.printing.specs.Puts.{Put};
 
 fn number(n: usize) -> i32
@@ -17,23 +17,31 @@ fn number(n: usize) -> i32
     n as i32
 }
 
+// A line that says one number.
+fn put_line(out: &mut [u8], at: usize, form: &[u8], n: usize) -> usize
+    requires { ⌜ (n ≤ 256) × (marks (now form) ≡ 1) × (at + weight (now form) ≤ length (now out)) ⌝ }
+    ensures wrote { λ r. ⌜ Put (now (out .entry)) (now (out .exit)) at r (writeForm (now (form .entry)) (pos n ∷ [])) ⌝ }
+    ensures bound { λ r. ⌜ r ≤ at + weight (now (form .entry)) ⌝ }
+{
+    let values = [number(n)];
+    printing::put_form(out, at, form, &values, 0)
+}
+
 pub fn put_refusal(out: &mut [u8], at: usize, refusal: usize) -> usize
     requires { ⌜ (refusal ≤ 256) × (at + 19 ≤ length (now out)) ⌝ }
     ensures wrote { λ r. ⌜ Put (now (out .entry)) (now (out .exit)) at r (writeForm refusedForm (pos refusal ∷ [])) ⌝ }
     ensures bound { λ r. ⌜ r ≤ at + 19 ⌝ }
 {
-    let values = [number(refusal)];
-    printing::put_form(out, at, b"(refused #)\n", &values, 0)
+    put_line(out, at, b"(refused #)\n", refusal)
 }
 
 // The first line of a map of n cells a side.
-pub fn put_head(out: &mut [u8], at: usize, n: usize) -> usize
+fn put_head(out: &mut [u8], at: usize, n: usize) -> usize
     requires { ⌜ (n ≤ 256) × (at + 14 ≤ length (now out)) ⌝ }
     ensures wrote { λ r. ⌜ Put (now (out .entry)) (now (out .exit)) at r (writeForm mapForm (pos n ∷ [])) ⌝ }
     ensures bound { λ r. ⌜ r ≤ at + 14 ⌝ }
 {
-    let values = [number(n)];
-    printing::put_form(out, at, b"(map #\n", &values, 0)
+    put_line(out, at, b"(map #\n", n)
 }
 
 fn put_bytes(out: &mut [u8], at: usize, text: &[u8]) -> usize
@@ -57,28 +65,21 @@ fn put_row(out: &mut [u8], at: usize, row: &[u8]) -> usize
     put_bytes(out, b, b")\n")
 }
 
-// The lines of rows `from` to `to` - 1 of a map of n cells a side.
-pub fn put_rows(out: &mut [u8], at: usize, cells: &[u8], n: usize, from: usize, to: usize) -> usize
-    requires { ⌜ (n ≤ 256) × (from ≤ to) × (to ≤ n) × (n * n ≤ length (now cells)) × (at + (to - from) * (n + 7) ≤ length (now out)) ⌝ }
-    ensures wrote { λ r. ⌜ Put (now (out .entry)) (now (out .exit)) at r (rowsText n (to - from) (drop (from * n) (now (cells .entry)))) ⌝ }
-    ensures bound { λ r. ⌜ r ≡ at + (to - from) * (n + 7) ⌝ }
+// The lines of the rows of a map of n cells a side.
+fn put_rows(out: &mut [u8], at: usize, cells: &[u8], n: usize) -> usize
+    requires { ⌜ (n ≤ 256) × (n * n ≤ length (now cells)) × (at + n * (n + 7) ≤ length (now out)) ⌝ }
+    ensures wrote { λ r. ⌜ Put (now (out .entry)) (now (out .exit)) at r (rowsText n n (now (cells .entry))) ⌝ }
+    ensures bound { λ r. ⌜ r ≡ at + n * (n + 7) ⌝ }
 {
     let mut i = at;
-    let mut j = from;
-    while j < to {
+    let mut j: usize = 0;
+    while j < n {
         let a = j * n;
         let e = a + n;
         i = put_row(out, i, &cells[a..e]);
         j += 1;
     }
     i
-}
-
-pub fn put_end(out: &mut [u8], at: usize) -> usize
-    requires { ⌜ at + 2 ≤ length (now out) ⌝ }
-    ensures wrote { λ r. ⌜ Put (now (out .entry)) (now (out .exit)) at r (bytes ")\n") ⌝ }
-{
-    put_bytes(out, at, b")\n")
 }
 
 // A whole map of n cells a side, from the front of `out`.
@@ -88,6 +89,6 @@ pub fn put_map(out: &mut [u8], cells: &[u8], n: usize) -> usize
     ensures bound { λ r. ⌜ r ≤ 67344 ⌝ }
 {
     let a = put_head(out, 0, n);
-    let b = put_rows(out, a, cells, n, 0, n);
-    put_end(out, b)
+    let b = put_rows(out, a, cells, n);
+    put_bytes(out, b, b")\n")
 }
