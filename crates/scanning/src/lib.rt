@@ -7,7 +7,7 @@ ghost use lib.ListN.{length, drop};
 ghost use Rattle.model.specs.Numbers.{natural, number};
 ghost use Rattle.model.specs.Forms.{readForm};
 ghost use Rattle.sheet_text.specs.Forms.{marks};
-ghost use Rattle.scanning.specs.Answers.{byteOf, digitOf, naturalGot, numberGot, lineGot};
+ghost use Rattle.scanning.specs.Answers.{byteOf, digitOf, noNatural, naturalGot, noNumber, numberGot, noLine, lineGot};
 
 pub struct Natural {
     pub found: bool,
@@ -56,6 +56,16 @@ fn digit_at(s: &[u8], i: usize) -> u32
     b - 48
 }
 
+fn no_natural() -> Natural
+    ensures answer { λ r. ⌜ r ≡ noNatural ⌝ }
+{
+    Natural {
+        found: false,
+        value: 0,
+        next: 0,
+    }
+}
+
 // One digit that is no 0, and at most six more.
 pub fn natural_at(s: &[u8], at: usize) -> Natural
     ensures answer { λ r. ⌜ naturalGot (now (s .entry)) r ≡ natural (drop at (now (s .entry))) ⌝ }
@@ -63,18 +73,10 @@ pub fn natural_at(s: &[u8], at: usize) -> Natural
 {
     let d = digit_at(s, at);
     if d == 0 {
-        return Natural {
-            found: false,
-            value: 0,
-            next: 0,
-        };
+        return no_natural();
     }
     if d >= 10 {
-        return Natural {
-            found: false,
-            value: 0,
-            next: 0,
-        };
+        return no_natural();
     }
     let mut v = d;
     let mut i = at + 1;
@@ -113,6 +115,16 @@ fn negative(v: u32) -> i32
     -(v as i32)
 }
 
+fn no_number() -> Number
+    ensures answer { λ r. ⌜ r ≡ noNumber ⌝ }
+{
+    Number {
+        found: false,
+        value: 0,
+        next: 0,
+    }
+}
+
 // A lone 0, or a natural number with or without a minus before it.
 pub fn number_at(s: &[u8], at: usize) -> Number
     ensures answer { λ r. ⌜ numberGot (now (s .entry)) r ≡ number (drop at (now (s .entry))) ⌝ }
@@ -135,11 +147,7 @@ pub fn number_at(s: &[u8], at: usize) -> Number
                 next: n.next,
             };
         }
-        return Number {
-            found: false,
-            value: 0,
-            next: 0,
-        };
+        return no_number();
     }
     let n = natural_at(s, at);
     if n.found {
@@ -149,10 +157,16 @@ pub fn number_at(s: &[u8], at: usize) -> Number
             next: n.next,
         };
     }
-    Number {
+    no_number()
+}
+
+fn no_line() -> Line
+    ensures answer { λ r. ⌜ r ≡ noLine ⌝ }
+{
+    Line {
         found: false,
-        value: 0,
         next: 0,
+        values: [0i32; 8],
     }
 }
 
@@ -173,11 +187,7 @@ pub fn form_at(s: &[u8], at: usize, form: &[u8]) -> Line
         if f == 35 {
             let n = number_at(s, i);
             if !n.found {
-                return Line {
-                    found: false,
-                    next: 0,
-                    values,
-                };
+                return no_line();
             }
             let v = n.value;
             values[count] = v;
@@ -186,11 +196,7 @@ pub fn form_at(s: &[u8], at: usize, form: &[u8]) -> Line
         } else {
             let b = byte_at(s, i);
             if b != f {
-                return Line {
-                    found: false,
-                    next: 0,
-                    values,
-                };
+                return no_line();
             }
             i += 1;
         }

@@ -33,8 +33,11 @@ add-j c = omega arith
 number-at-requires : tie.Need-number-at-requires Inv-loop μ-loop
 number-at-requires c κs = tt
 
+no-line-requires : tie.Need-no-line-requires Inv-loop μ-loop
+no-line-requires c κs = tt
+
 returns : tie.Need-returns Inv-loop μ-loop
-returns c = (search (needs, forms.mark-none, not-true), search needs)
+returns c = rw (c .no-line .ensures) (search (needs, forms.mark-none, not-true), search needs)
 
 mul-values : tie.Need-mul-values Inv-loop μ-loop
 mul-values c = search (needs, forms.room-offset)
@@ -54,8 +57,11 @@ loop-again c = (search (needs, forms.mark-again, forms.room, not-false), search 
 byte-at-requires : tie.Need-byte-at-requires Inv-loop μ-loop
 byte-at-requires c κs = tt
 
+no-line-requires-2 : tie.Need-no-line-requires-2 Inv-loop μ-loop
+no-line-requires-2 c κs = tt
+
 returns-2 : tie.Need-returns-2 Inv-loop μ-loop
-returns-2 c = (search (needs, forms.byte-none), search needs)
+returns-2 c = rw (c .no-line2 .ensures) (search (needs, forms.byte-none), search needs)
 
 add-i : tie.Need-add-i Inv-loop μ-loop
 add-i c = search (needs, forms.byte-fits)
@@ -80,6 +86,7 @@ form-at-spec =
     wide-requires
     add-j
     number-at-requires
+    no-line-requires
     returns
     mul-values
     array-set-from-values
@@ -87,6 +94,7 @@ form-at-spec =
     loop-less
     loop-again
     byte-at-requires
+    no-line-requires-2
     returns-2
     add-i
     loop-less-2

@@ -18,11 +18,17 @@ abbrev μ-loop : tie.MeasureT-loop
 digit-at-requires : tie.Need-digit-at-requires Inv-loop μ-loop
 digit-at-requires c κs = tt
 
+no-natural-requires : tie.Need-no-natural-requires Inv-loop μ-loop
+no-natural-requires c κs = tt
+
 returns : tie.Need-returns Inv-loop μ-loop
-returns c = search (needs, steps.first-zero)
+returns c = rw (c .no-natural .ensures) (search (needs, steps.first-zero))
+
+no-natural-requires-2 : tie.Need-no-natural-requires-2 Inv-loop μ-loop
+no-natural-requires-2 c κs = tt
 
 returns-2 : tie.Need-returns-2 Inv-loop μ-loop
-returns-2 c = search (needs, steps.first-none)
+returns-2 c = rw (c .no-natural2 .ensures) (search (needs, steps.first-none))
 
 add-i : tie.Need-add-i Inv-loop μ-loop
 add-i c = search (needs, steps.next-fits)
@@ -64,7 +70,9 @@ natural-at-spec =
     Inv-loop
     μ-loop
     digit-at-requires
+    no-natural-requires
     returns
+    no-natural-requires-2
     returns-2
     add-i
     loop-holds

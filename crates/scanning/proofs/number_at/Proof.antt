@@ -25,8 +25,11 @@ negative-requires c κs = search (needs, steps.natural-small)
 returns-2 : tie.Need-returns-2
 returns-2 c = search (needs, steps.minus-here)
 
+no-number-requires : tie.Need-no-number-requires
+no-number-requires c κs = tt
+
 returns-3 : tie.Need-returns-3
-returns-3 c = search (needs, steps.minus-none)
+returns-3 c = rw (c .no-number .ensures) (search (needs, steps.minus-none))
 
 natural-at-requires-2 : tie.Need-natural-at-requires-2
 natural-at-requires-2 c κs = search needs
@@ -37,8 +40,11 @@ positive-requires c κs = search (needs, steps.natural-small)
 returns-4 : tie.Need-returns-4
 returns-4 c = search (needs, steps.plus-here)
 
+no-number-requires-2 : tie.Need-no-number-requires-2
+no-number-requires-2 c κs = tt
+
 returns-5 : tie.Need-returns-5
-returns-5 c = search (needs, steps.plus-none)
+returns-5 c = rw (c .no-number2 .ensures) (search (needs, steps.plus-none))
 
 pub number-at-spec : {M : Type 1} → statement M
 number-at-spec =
@@ -51,8 +57,10 @@ number-at-spec =
     natural-at-requires
     negative-requires
     returns-2
+    no-number-requires
     returns-3
     natural-at-requires-2
     positive-requires
     returns-4
+    no-number-requires-2
     returns-5)
