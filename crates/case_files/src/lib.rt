@@ -1,12 +1,12 @@
 // What the programs that run stored cases share: a case is an argument, the name of a file that holds a sheet.
 use libc::STDOUT_FILENO;
-ghost use Prim.Native.Nat.{_≤_};
+ghost use mathlib.Core.Path.{_≡_};
+ghost use Prim.Native.Nat.{min};
 ghost use Rattle.io.specs.Counts.{Counts};
 
 // The smaller of two numbers: what a count says, and no more than there is.
 pub fn least(a: usize, b: usize) -> usize
-    ensures first { λ r. ⌜ r ≤ a ⌝ }
-    ensures second { λ r. ⌜ r ≤ b ⌝ }
+    ensures smaller { λ r. ⌜ r ≡ min a b ⌝ }
 {
     if a < b { a } else { b }
 }

@@ -1,3 +1,4 @@
+use native.Mathlib.Omega.{arith}
 use mathlib.Core.Path.{sym}
 use lib.Seq.{length-take-le}
 use borrow.Author.Needs.{needs}
@@ -10,7 +11,7 @@ least-requires c κs = search needs
 slice-aggregate-point : tie.Need-slice-aggregate-point
 slice-aggregate-point c =
     let l = c .before .least in
-    sym (length-take-le (l .result) (c .before .before .args .store .now) (l .ensures .1))
+    sym (length-take-le (l .result) (c .before .before .args .store .now) (omega (arith, l .ensures)))
 
 point-requires : tie.Need-point-requires
 point-requires c κs = search needs

@@ -29,7 +29,7 @@ slice-aggregate-write-all c =
     let l = c .before .least in
     let w = c .before .before .before .before .write in
     let long : length (w .last .1 .0) ≡ 5700 = search needs in
-    sym (length-take-le (l .result) (w .last .1 .0) (omega (arith, l .ensures .1)))
+    sym (length-take-le (l .result) (w .last .1 .0) (omega (arith, l .ensures)))
 
 write-all-requires : tie.Need-write-all-requires
 write-all-requires c κs = search needs
