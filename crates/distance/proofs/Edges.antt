@@ -2,25 +2,24 @@
 use mathlib.Core.Path.{_≡_, refl, sym, ap, ap₂, _∙_, subst}
 use mathlib.Core.Bool.{Bool, true, false, cond}
 use mathlib.Core.List.{List, [], _∷_, _++_, append-nil}
-use Prim.Native.Nat.{ℕ, suc, _+_, _*_, _-_, _≤_, _<_}
+use Prim.Native.Nat.{ℕ, suc, _+_, _*_, _<_}
 use native.Mathlib.Numerals.{add-one}
 use native.Mathlib.Omega.{arith}
-use lib.Dec.{T}
-use lib.IntN.{ℤ, pos, natAbs}
-use lib.ListN.{length, getD, take, drop, length-append}
-use lib.Seq.{take-at}
-use lib.Signed.{ltZ, nonNeg}
+use lib.IntN.{ℤ}
+use lib.ListN.{length, drop}
+use lib.Signed.{ltZ}
 use Rattle.model.specs.Strips.{Strip}
 use Rattle.model.specs.Trees.{Tree}
-use Rattle.model.specs.Store.{width, size, flatten}
+use Rattle.model.specs.Store.{width, size}
 use Rattle.model.specs.Explore.{Cell, farthest², closest²}
 use Rattle.model.specs.Distance.{leaves, leavesAll, leavesAt, lesser, least, Some}
 use Rattle.ranges.specs.Sizes.{AllSized, EachSized}
-use Rattle.subtrees.specs.Preorder.{size-pos, length-flatten, countPlace, Begins, BeginsAll, begins-count, all-first, all-others}
+use Rattle.subtrees.specs.Preorder.{Begins, BeginsAll, all-first, all-others}
+use Rattle.subtrees.specs.Fronts.{TreesOf}
 use Rattle.boxes.specs.declared.Bounds.{Bounds}
 use Rattle.distance.specs.declared.Found.{Found}
 use Rattle.distance.specs.Least.{least-append, attained, leaf-there, leaves-there, some-below}
-use Rattle.distance.specs.Answers.{BoundsOf, FoundIn, TreesOf}
+use Rattle.distance.specs.Answers.{BoundsOf, FoundIn}
 
 -- ---- the first tree, and the others
 pub record First (l : List ℤ) (k : ℕ) : Type 0 where
@@ -37,26 +36,7 @@ first-of′ l k [] e h b s = absurd (omega arith)
 first-of′ l k (t ∷ us) e h b s = record { first = t; others = us; many = e; begins = all-first t us l b; later = all-others t us l b; first-sized = s .0; others-sized = s .1 }
 
 pub first-of : {l : List ℤ} {k : ℕ} → TreesOf l k → 0 < k → First l k
-first-of {l} {k} h p = first-of′ l k (h .trees) (h .many) p (h .is) (h .sized)
-
-pub room : (t : Tree) (l : List ℤ) → Begins t l → width * size t ≤ length l
-room t l b = omega (arith, ap length b, length-append (flatten t) (drop (width * size t) l), length-flatten t)
-
-pub front : (t : Tree) (l : List ℤ) → Begins t l → width ≤ length l
-front t l b = omega (arith, room t l b, size-pos t)
-
-pub counted : (t : Tree) (l : List ℤ) → Begins t l → T (nonNeg (getD l countPlace (pos 0)))
-counted t l b = rw (begins-count t l b) tt
-
--- n is the first tree's count, as read
-pub size-read : (t : Tree) (l : List ℤ) (n : ℕ) → Begins t l → n ≡ natAbs (getD l countPlace (pos 0)) → n ≡ size t
-size-read t l n b e = e ∙ ap natAbs (begins-count t l b)
-
--- the part that begins at 0 and ends where the count says
-pub first-part : (t : Tree) (l : List ℤ) (n : ℕ) → Begins t l → n ≡ size t → take (width * n - 0) (drop 0 l) ≡ flatten t
-first-part t l n b e =
-    let z : width * n - 0 ≡ width * size t = omega arith in
-    ap (λ (k : ℕ). take k l) z ∙ ap (λ (y : List ℤ). take (width * size t) y) b ∙ take-at (flatten t) (drop (width * size t) l) (width * size t) (length-flatten t)
+first-of {l} {k} h p = first-of′ l k (h .trees) (h .holds .many) p (h .holds .begins) (h .holds .sized)
 
 -- ---- what is found
 module _ (c : Cell) where

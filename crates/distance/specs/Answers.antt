@@ -1,15 +1,10 @@
 -- What each step of the lookup of a point answers, in the model's terms. Assumes nothing.
 use mathlib.Core.Path.{_≡_}
 use mathlib.Core.List.{List}
-use Prim.Native.Nat.{ℕ}
-use lib.IntN.{ℤ}
-use lib.ListN.{length}
 use Rattle.model.specs.Strips.{Strip}
 use Rattle.model.specs.Trees.{Tree}
 use Rattle.model.specs.Explore.{Cell, farthest², closest²}
 use Rattle.model.specs.Distance.{leavesAll, leavesAt, least, Some}
-use Rattle.ranges.specs.Sizes.{EachSized}
-use Rattle.subtrees.specs.Preorder.{BeginsAll}
 use Rattle.boxes.specs.declared.Bounds.{Bounds}
 use Rattle.distance.specs.declared.Found.{Found}
 
@@ -23,10 +18,3 @@ pub record FoundIn (c : Cell) (ts : List Tree) (r : Found) : Type 0 where
   pub lo-is : r .lo ≡ least (closest² c) (leavesAll ts)
   pub hi-is : r .hi ≡ least (farthest² c) (leavesAll ts)
   pub attains : Some (λ s. farthest² c s ≡ least (farthest² c) (leavesAll ts)) (leavesAt ts (r .edge))
-
--- the list begins with k trees whose strips are sized
-pub record TreesOf (l : List ℤ) (k : ℕ) : Type 0 where
-  pub trees : List Tree
-  pub many : length trees ≡ k
-  pub is : BeginsAll trees l
-  pub sized : EachSized trees

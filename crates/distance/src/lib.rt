@@ -16,7 +16,8 @@ ghost use Rattle.model.specs.Distance.{leaves, lesser, lo, hi, Attains};
 ghost use Rattle.subtrees.specs.Preorder.{BeginsAll};
 ghost use Rattle.subtrees.specs.Halves.{TreeOf};
 ghost use Rattle.boxes.specs.Ranges.{pointAt};
-ghost use Rattle.distance.specs.Answers.{BoundsOf, FoundIn, TreesOf};
+ghost use Rattle.subtrees.specs.Fronts.{TreesOf};
+ghost use Rattle.distance.specs.Answers.{BoundsOf, FoundIn};
 
 // The bounds over some edges, with one of them that attains hi.
 pub struct Found {

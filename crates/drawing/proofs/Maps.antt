@@ -29,7 +29,9 @@ use Rattle.verdicts.specs.DemandThree.{forest-covers}
 use Rattle.inheritance.specs.Edges.{EachInherits, covered-inherits}
 use Rattle.inheritance.specs.Drawn.{drawn-is}
 use Rattle.inheritance.specs.Blocks.{smallest-is}
-use Rattle.open_edges.specs.Starts.{Starts, Holds}
+use Rattle.subtrees.specs.Sizes.{forest-many}
+use Rattle.subtrees.specs.Fronts.{Holds}
+use Rattle.open_edges.specs.Starts.{Starts}
 use Rattle.filling.specs.Squares.{In, over, Drawn}
 use Rattle.filling.specs.Quarters.{over-in}
 use Rattle.drawing.specs.declared.Frame.{Frame}
@@ -121,17 +123,8 @@ module _ (j : Job) (cells : List ℕ) (store : List ℤ) (count : ℕ) (x y : �
       (subst (λ z. NumbersSized (j .x) (j .y) (plateLog j) (cellLog j) z) (sym (h .reach-is)) s))))
 
   -- ---- the trees
-  trees-long : (vs : List ℤ) (T : ℤ) (k e : ℕ) → length (trees T (edgesFrom vs k e)) ≡ k
-  unfolding edgesFrom
-  trees-long vs T zero e = refl
-  trees-long vs T (suc k) e = ap suc (trees-long vs T k (e + 1))
-
-  forest-long : length (forest j) ≡ j .count
-  unfolding forest outline
-  forest-long = trees-long (j .places) (j .grain) (j .count) 0
-
   pub held : Holds store count (forest j)
-  held = record { count-is = forest-long ∙ sym (h .count-is); rest = h .rest; is = h .store-is; sized = h .sized }
+  held = record { many = forest-many j ∙ sym (h .count-is); begins = h .begins; sized = h .sized }
 
   pub count-most : count ≤ 64
   count-most = omega (arith, h .count-is, legal j (h .accepted) .most)

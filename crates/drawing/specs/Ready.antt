@@ -1,6 +1,6 @@
 -- What drawing asks for: a frame in which no number leaves its bounds, a block of it, a store with the open trees. Assumes nothing.
 use mathlib.Core.Path.{_≡_}
-use mathlib.Core.List.{List, _++_}
+use mathlib.Core.List.{List}
 use Prim.Native.Nat.{ℕ, _+_, _-_, _*_, _^_, _≤_, _<_}
 use lib.Dec.{T}
 use lib.IntN.{ℤ, natAbs}
@@ -8,9 +8,10 @@ use lib.Signed.{nonNeg}
 use lib.ListN.{length, take}
 use Rattle.model.specs.declared.Job.{Job}
 use Rattle.model.specs.Jobs.{judge, plateLog, cellLog}
-use Rattle.model.specs.Store.{forest, storeOf}
+use Rattle.model.specs.Store.{forest}
 use Rattle.model.specs.Plates.{cellsOf}
 use Rattle.ranges.specs.Sizes.{EachSized}
+use Rattle.subtrees.specs.Preorder.{BeginsAll}
 use Rattle.strip_tests.specs.Limits.{ReachSized}
 use Rattle.open_edges.specs.Starts.{Forest}
 use Rattle.drawing.specs.declared.Frame.{Frame}
@@ -58,8 +59,7 @@ pub record MapReady (j : Job) (cells : List ℕ) (store : List ℤ) (count : ℕ
   pub n-is : n ≡ plateLog j
   pub m-is : m ≡ cellLog j
   pub reach-is : reach ≡ j .reach
-  pub rest : List ℤ
-  pub store-is : store ≡ storeOf j ++ rest
+  pub begins : BeginsAll (forest j) store
   pub sized : EachSized (forest j)
   pub room : cellsOf j ≤ length cells
 

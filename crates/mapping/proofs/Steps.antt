@@ -20,7 +20,7 @@ use Rattle.model.specs.Plates.{columns, cellsOf}
 use Rattle.model.specs.Entries.{over, mapRefusal}
 use Rattle.ranges.specs.Legal.{legal}
 use Rattle.ranges.specs.Jobs.{Limits, GrainSized, judge-sized, forest-sized}
-use Rattle.subtrees.specs.Preorder.{length-all}
+use Rattle.subtrees.specs.Preorder.{length-all, all-begun}
 use Rattle.subtrees.specs.Sizes.{forest-is, few-trees}
 use Rattle.drawing.specs.Ready.{MapReady}
 use Rattle.drawing.proofs.Maps.{job-numbers}
@@ -149,8 +149,7 @@ map-now j nodes old new cells h g e p q = record {
   n-is = q .n-is;
   m-is = q .m-is;
   reach-is = q .reach-is;
-  rest = drop (length (storeOf j)) old;
-  store-is = store-now j (length old) (length cells) nodes h g old new e;
+  begins = all-begun new (drop (length (storeOf j)) old) (forest j) (store-now j (length old) (length cells) nodes h g old new e);
   sized = forest-sized j (judge-sized j (h .judged));
   room = h .cells-fit;
 }

@@ -1,36 +1,30 @@
 -- The walk over a store that lists where its trees start: what is listed, and what lies ahead. Assumes nothing.
-use mathlib.Core.Path.{_≡_, refl, sym, ap, _∙_, subst}
-use mathlib.Core.List.{List, [], _∷_, _++_, append-assoc}
+use mathlib.Core.Path.{_≡_, refl, sym, ap, subst}
+use mathlib.Core.List.{List, [], _∷_, _++_}
 use Prim.Native.Nat.{ℕ, zero, suc, _+_, _*_, _<_}
 use native.Mathlib.Omega.{arith}
 use lib.IntN.{ℤ, pos, natAbs}
 use lib.ListN.{length, getD, set, take, drop}
-use lib.Seq.{take-all, take-suc-set, drop-drop, drop-at}
+use lib.Seq.{take-all, take-suc-set, drop-drop}
 use Rattle.model.specs.Trees.{Tree}
-use Rattle.model.specs.Store.{width, size, flatten, flattenAll}
+use Rattle.model.specs.Store.{width, size}
 use Rattle.ranges.specs.Sizes.{EachSized}
-use Rattle.subtrees.specs.Preorder.{length-flatten, countPlace}
-use Rattle.open_edges.specs.Starts.{At, Starts, none, Holds}
+use Rattle.subtrees.specs.Preorder.{countPlace, BeginsAll, all-first, all-others}
+use Rattle.subtrees.specs.Fronts.{Holds}
+use Rattle.open_edges.specs.Starts.{At, Starts, none}
 use Rattle.open_edges.specs.Looked.{starts-snoc}
 use Rattle.open_edges.proofs.Asks.{here}
 
 -- from place a on the store holds the trees ts
 pub record Ahead (store : List ℤ) (a : ℕ) (ts : List Tree) : Type 0 where
-  pub rest : List ℤ
-  pub is : drop a store ≡ flattenAll ts ++ rest
+  pub begins : BeginsAll ts (drop a store)
   pub sized : EachSized ts
 
 first-at : (store : List ℤ) (a : ℕ) (t : Tree) (ts : List Tree) → Ahead store a (t ∷ ts) → At store a t
-first-at store a t ts h = record { rest = flattenAll ts ++ h .rest; is = h .is ∙ append-assoc (flatten t) (flattenAll ts) (h .rest); sized = h .sized .0 }
+first-at store a t ts h = record { begins = all-first t ts (drop a store) (h .begins); sized = h .sized .0 }
 
 next-ahead : (store : List ℤ) (a : ℕ) (t : Tree) (ts : List Tree) → Ahead store a (t ∷ ts) → Ahead store (a + width * size t) ts
-next-ahead store a t ts h = record {
-  rest = h .rest;
-  is =
-      sym (drop-drop (width * size t) a store) ∙ ap (λ l. drop (width * size t) l) (h .is ∙ append-assoc (flatten t) (flattenAll ts) (h .rest))
-      ∙ drop-at (flatten t) (flattenAll ts ++ h .rest) (width * size t) (length-flatten t);
-  sized = h .sized .1;
-}
+next-ahead store a t ts h = record { begins = subst (BeginsAll ts) (drop-drop (width * size t) a store) (all-others t ts (drop a store) (h .begins)); sized = h .sized .1 }
 
 -- the e-th tree of a list
 pub record Nth (ts : List Tree) (e : ℕ) : Type 0 where
@@ -49,7 +43,7 @@ pub record Listed (store : List ℤ) (ts : List Tree) (list : List ℕ) (a e : �
   pub ahead : Ahead store a (drop e ts)
 
 pub begin : (store : List ℤ) (count : ℕ) (ts : List Tree) (list : List ℕ) → Holds store count ts → Listed store ts list 0 0
-begin store count ts list h = record { done = none; ahead = record { rest = h .rest; is = h .is; sized = h .sized } }
+begin store count ts list h = record { done = none; ahead = record { begins = h .begins; sized = h .sized } }
 
 -- the next tree, and the list with its place
 pub record Step (store : List ℤ) (ts : List Tree) (list : List ℕ) (a e : ℕ) : Type 0 where

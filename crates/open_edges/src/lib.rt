@@ -12,7 +12,8 @@ ghost use Rattle.model.specs.Explore.{verdict, explore, exploreAll, inside};
 ghost use Rattle.inheritance.specs.Edges.{opened};
 ghost use Rattle.strip_tests.specs.PlainTests.{code};
 ghost use Rattle.search.specs.Cells.{CellSized, cellAt, Enough};
-ghost use Rattle.open_edges.specs.Starts.{At, TreeAt, Starts, Forest, Holds, AnyHeld};
+ghost use Rattle.subtrees.specs.Fronts.{Holds, TreesOf};
+ghost use Rattle.open_edges.specs.Starts.{At, TreeAt, Starts, Forest};
 
 // the answer of the tree that starts at place a
 fn ask(store: &[i32], a: usize, x: i64, y: i64, s: i64, r: i64, enough: u8) -> u8
@@ -72,7 +73,7 @@ pub fn explore_open(
 
 // where each edge's tree starts, from the subtree counts
 pub fn list_starts(store: &[i32], count: usize, list: &mut [usize; 64])
-    requires { ⌜ (count ≤ 64) × AnyHeld (now store) count × (length (now list) ≡ 64) ⌝ }
+    requires { ⌜ (count ≤ 64) × TreesOf (now store) count × (length (now list) ≡ 64) ⌝ }
     ensures long { λ _. ⌜ length (now (list .exit)) ≡ 64 ⌝ }
     ensures starts { λ _. ⌜ ((ts : List Tree) → Holds (now (store .entry)) count ts → Starts (now (store .entry)) (take count (now (list .exit))) ts) ⌝ }
 {

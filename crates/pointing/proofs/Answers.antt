@@ -20,7 +20,7 @@ use Rattle.ranges.specs.Jobs.{JobSized, coordinate-in, ranged-sized, forest-siz
 use Rattle.subtrees.specs.Begins.{begins-all}
 use Rattle.subtrees.specs.Counts.{sorted, none}
 use Rattle.subtrees.specs.Sizes.{forest-many, forest-some, forest-few}
-use Rattle.distance.specs.Answers.{TreesOf}
+use Rattle.subtrees.specs.Fronts.{TreesOf}
 use Rattle.pointing.specs.Checks.{asking, refusedWith}
 
 -- ---- checks in a row
@@ -123,4 +123,4 @@ module _ (j : Job) (x y : ℤ) (store : List ℤ) where
     trees-many = forest-many j
 
     pub trees-there : begins store (storeOf j) ≡ true → TreesOf store (j .count)
-    trees-there b = record { trees = forest j; many = trees-many; is = begins-all (forest j) store b; sized = forest-sized j (p .job) }
+    trees-there b = record { trees = forest j; holds = record { many = trees-many; begins = begins-all (forest j) store b; sized = forest-sized j (p .job) } }

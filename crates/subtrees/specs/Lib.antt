@@ -2,6 +2,7 @@
 pub mod Preorder
 pub mod Begins
 pub mod Halves
+pub mod Fronts
 pub mod Subtrees
 pub mod Halving
 pub mod Counts

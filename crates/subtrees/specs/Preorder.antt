@@ -42,6 +42,10 @@ later l r t e = ap (λ (z : List ℤ). drop (width * size t) z) e ∙ drop-at (f
 pub begun : (l r : List ℤ) (t : Tree) → l ≡ flatten t ++ r → Begins t l
 begun l r t e = e ∙ ap (λ (z : List ℤ). flatten t ++ z) (sym (later l r t e))
 
+pub all-begun : (l r : List ℤ) (ts : List Tree) → l ≡ flattenAll ts ++ r → BeginsAll ts l
+all-begun l r ts e =
+    e ∙ ap (λ (z : List ℤ). flattenAll ts ++ z) (sym (ap (λ (z : List ℤ). drop (width * sizes ts) z) e ∙ drop-at (flattenAll ts) r (width * sizes ts) (length-all ts)))
+
 -- ---- places inside a node: a strip's coordinate i has its centre, its axis and its box two apart, and the node count stands last
 abbrev pub countPlace : ℕ
 countPlace = 6

@@ -1,7 +1,7 @@
 -- The measure is the edges that are left. The stored count of the first tree says where its part ends. Assumes nothing.
 use mathlib.Core.Path.{_≡_, refl}
 use mathlib.Core.List.{List, _∷_}
-use Prim.Native.Nat.{suc, _+_, _*_, _≤_}
+use Prim.Native.Nat.{suc, _+_, _*_, _-_, _≤_}
 use native.Mathlib.Omega.{arith}
 use lib.IntN.{ℤ, natAbs}
 use lib.ListN.{length, drop}
@@ -16,7 +16,8 @@ use Rattle.model.specs.Distance.{leaves}
 use Rattle.subtrees.specs.Preorder.{tail, Begins, BeginsAll, all-first, all-others, all-yes}
 use Rattle.boxes.specs.Ranges.{pointAt}
 use Rattle.distance.specs.Answers.{BoundsOf, FoundIn}
-use Rattle.distance.proofs.Edges.{First, first-of, room, front, counted, size-read, first-part, last-edge, more-edges, edge-below}
+use Rattle.subtrees.specs.Fronts.{room, front, counted, size-read, first-part}
+use Rattle.distance.proofs.Edges.{First, first-of, last-edge, more-edges, edge-below}
 use Prim.Native.Nat.{ℕ, _<_}
 use borrow.Fn.Kinds.{In}
 use borrow.Fn.PlainCycle.{Measures, is, falls, and}
@@ -73,7 +74,7 @@ first-is : (t : ℕ) (c : nearest-from-lts.After-tree-bounds (callees t) (neares
 first-is t c u b =
     let m = c .before .before in
     let s = m .before in
-    rw (toZ-ofZ (s .fits .x), toZ-ofZ (s .fits .y)) at (c .tree-bounds .ensures u (first-part u (list t s) (m .count-at .result) b (read-is t m u b)))
+    rw (toZ-ofZ (s .fits .x), toZ-ofZ (s .fits .y)) at (c .tree-bounds .ensures u (first-part u (list t s) (width * m .count-at .result - 0) b (omega (arith, read-is t m u b))))
 
 later-is : (t : ℕ) (c : nearest-from-lts.After-nearest-from (callees t) (nearest-from-at t) nearest-from.Post) (u : Tree) (us : List Tree) → let s = c .before .before .before .before .before .before in
     suc (length us) ≡ s .args .count → BeginsAll (u ∷ us) (list t s) → FoundIn (point t s) us (c .nearest-from .result)
@@ -104,7 +105,7 @@ nearest-from-tree-bounds-requires t c κs =
     let m = c .before in
     let s = m .before in
     let f = start t s in
-    (record { tree = f .first; is = first-part (f .first) (list t s) (m .count-at .result) (f .begins) (read-is t m (f .first) (f .begins)); sized = f .first-sized }, x-in t s, y-in t s)
+    (record { tree = f .first; is = first-part (f .first) (list t s) (width * m .count-at .result - 0) (f .begins) (omega (arith, read-is t m (f .first) (f .begins))); sized = f .first-sized }, x-in t s, y-in t s)
 
 nearest-from-returns : (t : ℕ) → nearest-from-lts.Need-returns (callees t) (nearest-from-at t) nearest-from.Post
 nearest-from-returns t c =
@@ -138,7 +139,7 @@ nearest-from-nearest-from-requires t c κs =
     let n = read-is t m (f .first) (f .begins) in
     let d : BeginsAll (f .others) (drop (width * m .count-at .result) (list t s)) = rw n (f .later) in (
       omega (arith, s .pre .0, p .1),
-      (record { trees = f .others; many = omega (arith, f .many); is = rw (tail (width * m .count-at .result) (list t s)) d; sized = f .others-sized }, omega (arith, p .1, c .before .if1 .left), omega (arith, p .2), x-in t s, y-in t s),
+      (record { trees = f .others; holds = record { many = omega (arith, f .many); begins = rw (tail (width * m .count-at .result) (list t s)) d; sized = f .others-sized } }, omega (arith, p .1, c .before .if1 .left), omega (arith, p .2), x-in t s, y-in t s),
     )
 
 nearest-from-join-edge-requires : (t : ℕ) → nearest-from-lts.Need-join-edge-requires (callees t) (nearest-from-at t) nearest-from.Post

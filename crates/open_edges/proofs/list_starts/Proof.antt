@@ -5,7 +5,8 @@ use Prim.Native.Nat.{_-_, _≤_}
 use native.Mathlib.Omega.{arith}
 use lib.ListN.{length, take, length-set}
 use Rattle.model.specs.Trees.{Tree}
-use Rattle.open_edges.specs.Starts.{Starts, Holds}
+use Rattle.subtrees.specs.Fronts.{Holds}
+use Rattle.open_edges.specs.Starts.{Starts}
 use Rattle.open_edges.proofs.Asks.{front, Here, here}
 use Rattle.open_edges.proofs.Listing.{Listed, begin, Step, step, finish}
 use Rattle.open_edges.proofs.list_starts.Statement.{statement}
@@ -25,7 +26,7 @@ module _ (c : tie.In-loop Inv-loop μ-loop) (ts : List Tree) (h : Holds (c .befo
   stepped : Step (c .before .before .args .store .now) ts (c .before .loop .list) (c .before .loop .at) (c .before .loop .e)
   stepped =
       step (c .before .before .args .store .now) ts (c .before .loop .list) (c .before .loop .at) (c .before .loop .e)
-      (omega (arith, h .count-is, c .loop-test .taken)) (omega (arith, c .before .before .pre .0, c .loop-test .taken, c .before .loop .inv .1)) (c .before .loop .inv .2 ts h)
+      (omega (arith, h .many, c .loop-test .taken)) (omega (arith, c .before .before .pre .0, c .loop-test .taken, c .before .loop .inv .1)) (c .before .loop .inv .2 ts h)
 
 some : (c : tie.In-loop Inv-loop μ-loop) → Step (c .before .before .args .store .now) (c .before .before .pre .1 .trees) (c .before .loop .list) (c .before .loop .at) (c .before .loop .e)
 some c = stepped c (c .before .before .pre .1 .trees) (c .before .before .pre .1 .holds)
@@ -67,7 +68,7 @@ returns c =
     let l = c .before .loop in
     let s = c .before .before in
     let e : l .e ≡ s .args .count = omega (arith, c .loop-test .left, l .inv .0) in
-    (l .inv .1, λ ts h. subst (λ k. Starts (s .args .store .now) (take k (l .list)) ts) e (finish (s .args .store .now) ts (l .list) (l .at) (l .e) (h .count-is ∙ sym e) (l .inv .2 ts h)))
+    (l .inv .1, λ ts h. subst (λ k. Starts (s .args .store .now) (take k (l .list)) ts) e (finish (s .args .store .now) ts (l .list) (l .at) (l .e) (h .many ∙ sym e) (l .inv .2 ts h)))
 
 pub list-starts-spec : {M : Type 1} → statement M
 list-starts-spec =
