@@ -8,7 +8,7 @@ use native.Mathlib.Omega.{arith}
 use lib.Dec.{lit<}
 use lib.IntN.{ℤ, pos}
 use lib.ListN.{length, getD, set, take, drop, length-append, length-drop}
-use lib.Seq.{paste, paste-suc, take-all, take-paste, drop-paste, drop-drop, length-take-le}
+use lib.Seq.{drop-drop, length-take-le}
 use mir.Syntax.{w32}
 use mir.Val.{toZ}
 use mir.Facts.{toZ-pos}
@@ -28,19 +28,6 @@ pub one-small : (n : ℕ) (v : ℤ) → n ≤ 256 → v ≡ pos n → AllSmall (
 unfolding AllSmall Small
 one-small n v h e zero = rw e (omega arith)
 one-small n v h e (suc i) = lit< tt
-
--- ---- bytes copied
-pub copied : (d s out : List ℕ) (at i : ℕ) → out ≡ paste d at s i → at + length s ≤ length d → i < length s → set out (at + i) (getD s i 0) ≡ paste d at s (i + 1)
-copied d s out at i e h k = rw (e, add-one i) (paste-suc d at s i 0 (omega arith) k)
-
-pub all-copied : (d s out : List ℕ) (at i : ℕ) → out ≡ paste d at s i → at + length s ≤ length d → i ≤ length s → length s ≤ i → Put d out at (at + i) s
-all-copied d s out at i e h k l =
-    let z : i ≡ length s = omega arith in
-    record {
-      next-is = ap (λ n. at + n) z;
-      wrote = ap (take (at + i)) e ∙ take-paste d at s i (omega arith) k ∙ ap (λ u. take at d ++ u) (take-all i s l);
-      rest = ap (drop (at + i)) e ∙ drop-paste d at s i (omega arith) k;
-    }
 
 -- ---- a row
 pub row-put : (a b c d : List ℕ) (at i k next : ℕ) (row : List ℕ) → Put a b at i (bytes "(row ") → Put b c i k row → Put c d k next (bytes ")\n") → Put a d at next (rowText row)

@@ -1,5 +1,6 @@
 // What the program prints, written into lent bytes: the line of a refusal, a map's first line, its rows and its end. Each writer takes a position
 // and gives the position after what it wrote. Document 01, "The job sheet".
+use printing::put_bytes;
 ghost use mathlib.Core.Path.{_≡_};
 ghost use mathlib.Core.List.{[], _∷_};
 ghost use Prim.Native.Nat.{_+_, _*_, _≤_};
@@ -42,18 +43,6 @@ fn put_head(out: &mut [u8], at: usize, n: usize) -> usize
     ensures bound { λ r. ⌜ r ≤ at + 14 ⌝ }
 {
     put_line(out, at, b"(map #\n", n)
-}
-
-fn put_bytes(out: &mut [u8], at: usize, text: &[u8]) -> usize
-    requires { ⌜ at + length (now text) ≤ length (now out) ⌝ }
-    ensures wrote { λ r. ⌜ Put (now (out .entry)) (now (out .exit)) at r (now (text .entry)) ⌝ }
-{
-    let mut i: usize = 0;
-    while i < text.len() {
-        out[at + i] = text[i];
-        i += 1;
-    }
-    at + i
 }
 
 fn put_row(out: &mut [u8], at: usize, row: &[u8]) -> usize

@@ -1,3 +1,4 @@
--- What the proofs of the writers need: of numbers, and of forms.
+-- What the proofs of the writers need: of bytes, of numbers, and of forms.
+pub mod Copies
 pub mod Numbers
 pub mod Forms

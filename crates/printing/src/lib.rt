@@ -18,6 +18,18 @@ pub fn put_byte(out: &mut [u8], at: usize, b: u8) -> usize
     at + 1
 }
 
+pub fn put_bytes(out: &mut [u8], at: usize, text: &[u8]) -> usize
+    requires space { ⌜ at + length (now text) ≤ length (now out) ⌝ }
+    ensures answer { λ r. ⌜ Put (now (out .entry)) (now (out .exit)) at r (now (text .entry)) ⌝ }
+{
+    let mut i: usize = 0;
+    while i < text.len() {
+        out[at + i] = text[i];
+        i += 1;
+    }
+    at + i
+}
+
 // A digit's byte.
 fn byte_of(n: u32) -> u8
     requires digit { ⌜ n < 10 ⌝ }

@@ -1,17 +1,15 @@
--- The needs of `copy`, of `put_sheet` and of `write`. Assumes nothing.
+-- The needs of `put_sheet` and of `write`. Assumes nothing.
 use mathlib.Core.Path.{_≡_, refl, sym, ap, ap₂, _∙_, subst}
 use mathlib.Core.Bool.{Bool, true, false, cond}
 use mathlib.Core.List.{List, [], _++_}
 use Prim.Native.Nat.{ℕ, zero, suc, _+_, _*_, _≤_, _<_}
-use native.Mathlib.Numerals.{add-one}
 use native.Mathlib.Omega.{arith}
 use mir.Syntax.{w32}
 use mir.Val.{toZ, ofZ}
 use mir.ValLaws.{toZ-ofZ}
 use lib.Dec.{leb}
 use lib.IntN.{ℤ}
-use lib.ListN.{length, getD, drop, set}
-use lib.Seq.{paste, paste-suc}
+use lib.ListN.{length, take, drop, take-append-drop}
 use borrow.Author.Tests.{le-leb, lt-leb}
 use Rattle.model.specs.declared.Job.{Job}
 use Rattle.model.specs.Refusals.{accepted}
@@ -27,16 +25,6 @@ use Rattle.sheet_text.specs.Jobs.{legal, placed-small}
 use Rattle.sheet_text.specs.Code.{headOf, headText, edgesText, codeText, sheet-as-code, room}
 use Rattle.printing.specs.Puts.{Put}
 use Rattle.printing.proofs.Numbers.{put-then, small-fits, small-again}
-
--- ---- copy
-pub copied : (start out text : List ℕ) (i n : ℕ) → out ≡ paste start 0 text i → i < n → n ≤ length start → n ≤ length text → set out i (getD text i 0) ≡ paste start 0 text (i + 1)
-copied start out text i n e h k l =
-    ap₂ (λ o j. set o j (getD text i 0)) e (let z : i ≡ 0 + i = omega arith in z)
-    ∙ paste-suc start 0 text i 0 (omega arith) (omega arith)
-    ∙ ap (paste start 0 text) (sym (add-one i))
-
-pub all-copied : (start out text : List ℕ) (i n : ℕ) → out ≡ paste start 0 text i → i ≤ n → n ≤ i → out ≡ paste start 0 text n
-all-copied start out text i n e h k = e ∙ ap (paste start 0 text) (let z : i ≡ n = omega arith in z)
 
 -- ---- put_sheet, of a legal job
 module _ (j : Job) (ok : judge j ≡ 0) where
@@ -131,8 +119,16 @@ module _ (j : Job) (out : List ℕ) where
     unfolding write accepted
     done h = (λ i. record { refusal = 0; bytes = size i }) ∙ sym (rw (has-room h))
 
-    pub done-left : n ≤ length out → (after : List ℕ) → after ≡ paste out 0 text n → after ≡ writeLeaves j out
+    -- the sheet stands at the front of what was made aside
+    length-made : length (take n text) ≡ length (sheetOf j)
+    length-made = ap length (p .wrote)
+
+    pub made-fits : n ≤ length out → 0 + length (take n text) ≤ length out
+    made-fits h = omega (arith, length-made, size)
+
+    pub done-left : n ≤ length out → (after : List ℕ) (r : ℕ) → Put out after 0 r (take n text) → after ≡ writeLeaves j out
     unfolding writeLeaves accepted
-    done-left h after q =
-        q ∙ ap₂ _++_ (p .wrote) (ap (λ u. drop u out) (let y : 0 + n ≡ length (sheetOf j) = omega (arith, size) in y))
+    done-left h after r q =
+        sym (take-append-drop r after)
+        ∙ ap₂ _++_ (q .wrote ∙ p .wrote) (q .rest ∙ ap (λ u. drop u out) (let y : r ≡ length (sheetOf j) = omega (arith, q .next-is, length-made) in y))
         ∙ sym (rw (has-room h))

@@ -2,11 +2,11 @@
 use judging::judge;
 use model::Job;
 use model::Written;
+use printing::put_bytes;
 use printing::put_form;
 ghost use mathlib.Core.Path.{_≡_};
 ghost use Prim.Native.Nat.{_+_, _*_, _≤_};
 ghost use lib.ListN.{length};
-ghost use lib.Seq.{paste};
 ghost use Rattle.model.specs.Jobs as jobs;
 ghost use Rattle.model.specs.Layouts.{writeLines};
 ghost use Rattle.model.specs.Sheets.{stated, sheetOf};
@@ -86,17 +86,6 @@ fn put_sheet(out: &mut [u8], job: Job) -> usize
     put_form(out, c, b")\n", &head, 0)
 }
 
-fn copy(out: &mut [u8], text: &[u8], n: usize)
-    requires sizes { ⌜ (n ≤ length (now out)) × (n ≤ length (now text)) ⌝ }
-    ensures answer { λ _. ⌜ now (out .exit) ≡ paste (now (out .entry)) 0 (now (text .entry)) n ⌝ }
-{
-    let mut i: usize = 0;
-    while i < n {
-        out[i] = text[i];
-        i += 1;
-    }
-}
-
 // Writes a job's sheet. It is made aside first, so that a refused call leaves the bytes lent as they were.
 pub fn write(job: Job, out: &mut [u8]) -> Written
     ensures answer { λ r. ⌜ r ≡ entries.write job (now (out .entry)) ⌝ }
@@ -114,7 +103,7 @@ pub fn write(job: Job, out: &mut [u8]) -> Written
             bytes: 0,
         };
     }
-    copy(out, &text, n);
+    put_bytes(out, 0, &text[..n]);
     Written {
         refusal: 0,
         bytes: n,

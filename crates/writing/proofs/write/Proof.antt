@@ -1,4 +1,7 @@
 -- `writing::write` meets its contract. Assumes nothing.
+use mathlib.Core.Path.{sym}
+use native.Mathlib.Omega.{arith}
+use lib.Seq.{length-take-le}
 use borrow.Author.Needs.{needs}
 use Rattle.writing.proofs.Sheets as sheets
 use Rattle.writing.proofs.write.Statement.{statement}
@@ -19,11 +22,14 @@ put-sheet-requires c κs = search needs
 returns-2 : tie.Need-returns-2
 returns-2 c = (search (needs, sheets.no-space), search (needs, sheets.no-space-left))
 
-slice-aggregate-copy : tie.Need-slice-aggregate-copy
-slice-aggregate-copy c = search needs
+array-share-prefix-text : tie.Need-array-share-prefix-text
+array-share-prefix-text c = search needs
 
-copy-requires : tie.Need-copy-requires
-copy-requires c κs = search needs
+slice-aggregate-put-bytes : tie.Need-slice-aggregate-put-bytes
+slice-aggregate-put-bytes c = let r = c .before .before .before .before .put-sheet in sym (length-take-le (r .result) (r .last .0) (omega (arith, r .ensures .1, r .kept .0)))
+
+put-bytes-requires : tie.Need-put-bytes-requires
+put-bytes-requires c κs = search (needs, sheets.made-fits)
 
 same-length : tie.Need-same-length
 same-length c = search needs
@@ -40,7 +46,8 @@ write-spec =
     slice-aggregate-put-sheet
     put-sheet-requires
     returns-2
-    slice-aggregate-copy
-    copy-requires
+    array-share-prefix-text
+    slice-aggregate-put-bytes
+    put-bytes-requires
     same-length
     returns-3)

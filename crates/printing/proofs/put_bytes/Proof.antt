@@ -4,9 +4,9 @@ use native.Mathlib.Omega.{arith}
 use lib.ListN.{length}
 use lib.Seq.{paste, paste-zero}
 use borrow.Author.Needs.{needs}
-use Rattle.map_text.proofs.Steps as steps
-use Rattle.map_text.proofs.put_bytes.Statement.{statement}
-use Rattle.map_text.proofs.put_bytes.Tie as tie
+use Rattle.printing.proofs.Copies as copies
+use Rattle.printing.proofs.put_bytes.Statement.{statement}
+use Rattle.printing.proofs.put_bytes.Tie as tie
 
 abbrev Inv-loop : tie.InvT-loop
 Inv-loop out₀ at text i₀ out i = (out ≡ paste out₀ at text i) × (i ≤ length text) × (length out ≡ length out₀)
@@ -33,7 +33,7 @@ loop-less : tie.Need-loop-less Inv-loop μ-loop
 loop-less c = omega arith
 
 loop-again : tie.Need-loop-again Inv-loop μ-loop
-loop-again c = (search (needs, steps.copied), omega arith, search needs)
+loop-again c = (search (needs, copies.copied), omega arith, search needs)
 
 add-result : tie.Need-add-result Inv-loop μ-loop
 add-result c = omega arith
@@ -42,7 +42,7 @@ same-length : tie.Need-same-length Inv-loop μ-loop
 same-length c = search needs
 
 returns : tie.Need-returns Inv-loop μ-loop
-returns c = search (needs, steps.all-copied)
+returns c = search (needs, copies.all-copied)
 
 pub put-bytes-spec : {M : Type 1} → statement M
 put-bytes-spec =
