@@ -24,35 +24,7 @@ pub use symbols::{map, point, read, write};
 #[cfg(feature = "proved")]
 mod symbols {
     use super::{JobNumbers, JOB_NUMBERS};
-
-    extern "C" {
-        fn clearance_read(sheet: *const u8, sheet_len: usize, job: *mut i32, job_len: usize) -> u8;
-        fn clearance_write(
-            job: *const i32,
-            job_len: usize,
-            out: *mut u8,
-            out_len: usize,
-            bytes: *mut usize,
-        ) -> u8;
-        fn clearance_map(
-            job: *const i32,
-            job_len: usize,
-            store: *mut i32,
-            store_len: usize,
-            cells: *mut u8,
-            cells_len: usize,
-            nodes: *mut usize,
-        ) -> u8;
-        fn clearance_point(
-            job: *const i32,
-            job_len: usize,
-            x: i32,
-            y: i32,
-            store: *const i32,
-            store_len: usize,
-            nearest: *mut i64,
-        ) -> u8;
-    }
+    use clearance::ffi::{clearance_map, clearance_point, clearance_read, clearance_write};
 
     /// Reads a sheet into a job, which a refusal leaves as it was.
     pub fn read(sheet: &[u8], job: &mut JobNumbers) -> u8 {

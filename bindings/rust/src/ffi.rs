@@ -8,16 +8,17 @@
 //! number returned is 0 or a refusal's.
 
 extern "C" {
-    /// Reads a sheet. The first 519 numbers of `job` are written by every call;
-    /// if it has fewer none is, and a sheet that is not refused by itself is
-    /// refused with 7.
+    /// Reads a sheet into the first 519 numbers of `job`. A sheet that is not
+    /// refused by itself is refused with 7 where `job` has fewer. A refused call
+    /// writes nothing.
     ///
     /// # Safety
     /// `sheet` holds `sheet_len` bytes and `job` has `job_len` numbers to write.
     /// No pointer is null, and what is written overlaps nothing else.
     pub fn clearance_read(sheet: *const u8, sheet_len: usize, job: *mut i32, job_len: usize) -> u8;
 
-    /// Writes a job's sheet; `bytes` is written by every call.
+    /// Writes a job's sheet, and how many bytes it has to `bytes`. A refused call
+    /// writes nothing.
     ///
     /// # Safety
     /// `job` holds `job_len` numbers, `out` has `out_len` bytes to write and
@@ -31,7 +32,8 @@ extern "C" {
         bytes: *mut usize,
     ) -> u8;
 
-    /// Builds the trees and draws the map; `nodes` is written by every call.
+    /// Builds the trees and draws the map, and writes how many nodes there are to
+    /// `nodes`. A refused call writes nothing.
     ///
     /// # Safety
     /// `job` holds `job_len` numbers, `store` has `store_len` numbers to write,
@@ -47,7 +49,8 @@ extern "C" {
         nodes: *mut usize,
     ) -> u8;
 
-    /// Bounds a point's distance; the three numbers are written by every call.
+    /// Bounds a point's distance: lo, hi and the edge. A refused call writes
+    /// nothing.
     ///
     /// # Safety
     /// `job` holds `job_len` numbers, `store` `store_len`, and `nearest` has three

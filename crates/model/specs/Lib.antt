@@ -29,7 +29,7 @@ pub mod Distance
 pub mod Entries
 -- ---- what the program prints
 pub mod Printing
--- ---- what is or will be proved of all this
+-- ---- what is proved of all this
 pub mod Promises
 -- ---- "Figures to hold"
 pub mod Figures
