@@ -21,7 +21,7 @@ pub const LEFT_COUNT: usize = WIDTH + COUNT;
 // ---- numbers
 
 pub fn abs(x: i64) -> i64
-    requires { ⌜ natAbs x ≤ 4000000000000000000 ⌝ }
+    requires size { ⌜ natAbs x ≤ 4000000000000000000 ⌝ }
     ensures absolute { λ r. ⌜ r ≡ absℤ x ⌝ }
 {
     if x < 0 { 0 - x } else { x }
@@ -29,7 +29,7 @@ pub fn abs(x: i64) -> i64
 
 // x / n rounded down. The machine's division goes toward zero, so a remainder below zero says that the quotient is one too high.
 fn floor_div(x: i64, n: i64) -> i64
-    requires { ⌜ (natAbs x ≤ 8000000000000000000) × (0 < natAbs n) × T (nonNeg n) ⌝ }
+    requires sizes { ⌜ (natAbs x ≤ 8000000000000000000) × (0 < natAbs n) × T (nonNeg n) ⌝ }
     ensures floor { λ r. ⌜ r ≡ shrZ x (natAbs n) ⌝ }
 {
     let q = x / n;
@@ -39,21 +39,21 @@ fn floor_div(x: i64, n: i64) -> i64
 
 // The whole number nearest to x / n, a half toward plus infinity: x / n + 1/2 rounded down.
 pub fn rounded(x: i64, n: i64) -> i64
-    requires { ⌜ (natAbs x ≤ 3900000000000000000) × (natAbs n ≤ 8589934592) × (0 < natAbs n) × T (nonNeg n) ⌝ }
+    requires sizes { ⌜ (natAbs x ≤ 3900000000000000000) × (natAbs n ≤ 8589934592) × (0 < natAbs n) × T (nonNeg n) ⌝ }
     ensures nearest { λ r. ⌜ r ≡ nearest x (natAbs n) ⌝ }
 {
     floor_div(2 * x + n, 2 * n)
 }
 
 pub fn narrow(x: i64) -> i32
-    requires { ⌜ natAbs x ≤ 1000000000 ⌝ }
+    requires size { ⌜ natAbs x ≤ 1000000000 ⌝ }
     ensures same { λ r. ⌜ r ≡ x ⌝ }
 {
     x as i32
 }
 
 pub fn narrow_count(n: usize) -> i32
-    requires { ⌜ n < 1000000 ⌝ }
+    requires size { ⌜ n < 1000000 ⌝ }
     ensures same { λ r. ⌜ r ≡ pos n ⌝ }
 {
     n as i32
@@ -62,7 +62,7 @@ pub fn narrow_count(n: usize) -> i32
 // ---- slices of stored numbers
 
 pub fn wide_at(s: &[i32], i: usize) -> i64
-    requires { ⌜ i < length (now s) ⌝ }
+    requires within { ⌜ i < length (now s) ⌝ }
     ensures element { λ r. ⌜ r ≡ getD (now (s .entry)) i (pos 0) ⌝ }
 {
     s[i] as i64
@@ -70,7 +70,8 @@ pub fn wide_at(s: &[i32], i: usize) -> i64
 
 // a stored count
 pub fn count_at(s: &[i32], i: usize) -> usize
-    requires { ⌜ (i < length (now s)) × T (nonNeg (getD (now s) i (pos 0))) ⌝ }
+    requires within { ⌜ i < length (now s) ⌝ }
+    requires sign { ⌜ T (nonNeg (getD (now s) i (pos 0))) ⌝ }
     ensures element { λ r. ⌜ r ≡ natAbs (getD (now (s .entry)) i (pos 0)) ⌝ }
 {
     s[i] as usize
@@ -78,7 +79,7 @@ pub fn count_at(s: &[i32], i: usize) -> usize
 
 // writes a node's numbers at the front of s
 pub fn put_node(s: &mut [i32], a: i32, b: i32, c: i32, d: i32, e: i32, f: i32, g: i32)
-    requires { ⌜ width ≤ length (now s) ⌝ }
+    requires space { ⌜ width ≤ length (now s) ⌝ }
     ensures written { λ _. ⌜ now (s .exit) ≡ a ∷ b ∷ c ∷ d ∷ e ∷ f ∷ g ∷ drop width (now (s .entry)) ⌝ }
 {
     s[0] = a;

@@ -29,7 +29,7 @@ fn at_least_0(z: i64) -> i64
 
 // in coordinate i, of the point c and the first node of part
 fn range_of(part: &[i32], i: usize, c: i64) -> Range
-    requires { ⌜ (i < 2) × (width ≤ length (now part)) × SideSized (sideIn (now part) i) × (natAbs c ≤ 16000000) ⌝ }
+    requires sizes { ⌜ (i < 2) × (width ≤ length (now part)) × SideSized (sideIn (now part) i) × (natAbs c ≤ 16000000) ⌝ }
     ensures range { λ r. ⌜ RangeOf c (sideIn (now (part .entry)) i) r ⌝ }
 {
     let centre = arithmetic::wide_at(part, i);
@@ -45,7 +45,7 @@ fn range_of(part: &[i32], i: usize, c: i64) -> Range
 }
 
 fn sum_of_squares(x: i64, y: i64) -> i64
-    requires { ⌜ (natAbs x ≤ 1223959552) × (natAbs y ≤ 1223959552) ⌝ }
+    requires sizes { ⌜ (natAbs x ≤ 1223959552) × (natAbs y ≤ 1223959552) ⌝ }
     ensures sum { λ r. ⌜ r ≡ squares x y ⌝ }
 {
     x * x + y * y
@@ -53,7 +53,7 @@ fn sum_of_squares(x: i64, y: i64) -> i64
 
 // of the point (x, y) in fine units and the first node of part
 pub fn leaf_bounds(part: &[i32], x: i64, y: i64) -> Bounds
-    requires { ⌜ (width ≤ length (now part)) × Sized (stripIn (now part)) × (natAbs x ≤ 16000000) × (natAbs y ≤ 16000000) ⌝ }
+    requires sizes { ⌜ (width ≤ length (now part)) × Sized (stripIn (now part)) × (natAbs x ≤ 16000000) × (natAbs y ≤ 16000000) ⌝ }
     ensures low { λ r. ⌜ r .lo ≡ closest² (pointAt x y) (stripIn (now (part .entry))) ⌝ }
     ensures high { λ r. ⌜ r .hi ≡ farthest² (pointAt x y) (stripIn (now (part .entry))) ⌝ }
 {

@@ -18,7 +18,7 @@ ghost use Rattle.strips.specs.Structs.{side, stripOf};
 
 // writes a node's numbers at the front of s
 fn put(s: &mut [i32], x: Extent, y: Extent, nodes: usize)
-    requires { ⌜ (width ≤ length (now s)) × SideSized (side x) × SideSized (side y) × (nodes < 4096) ⌝ }
+    requires sizes { ⌜ (width ≤ length (now s)) × SideSized (side x) × SideSized (side y) × (nodes < 4096) ⌝ }
     ensures written { λ _. ⌜ now (s .exit) ≡ numbers (stripOf x y) nodes (drop width (now (s .entry))) ⌝ }
 {
     let a = arithmetic::narrow(x.centre);
@@ -41,7 +41,7 @@ pub fn build(
     m: usize,
     limit: i64,
 ) -> usize
-    requires { ⌜ FormSized (form cx) × FormSized (form cy) × Halvable left n m × (isLong (subtree limit (form cx) (form cy) left n m) ≡ false) × (width * size (subtree limit (form cx) (form cy) left n m) ≤ length (now s)) ⌝ }
+    requires ready { ⌜ FormSized (form cx) × FormSized (form cy) × Halvable left n m × (isLong (subtree limit (form cx) (form cy) left n m) ≡ false) × (width * size (subtree limit (form cx) (form cy) left n m) ≤ length (now s)) ⌝ }
     ensures nodes { λ r. ⌜ r ≡ size (subtree limit (form cx) (form cy) left n m) ⌝ }
     ensures written { λ _. ⌜ now (s .exit) ≡ flatten (subtree limit (form cx) (form cy) left n m) ++ drop (width * size (subtree limit (form cx) (form cy) left n m)) (now (s .entry)) ⌝ }
 {

@@ -21,7 +21,7 @@ ghost use Rattle.checking.specs.Answers.{Unless, Told};
 
 // is number i of s other than v
 fn differs(s: &[i32], i: usize, v: i64) -> bool
-    requires { ⌜ i < length (now s) ⌝ }
+    requires within { ⌜ i < length (now s) ⌝ }
     ensures unless { λ r. ⌜ Unless r (getD (now (s .entry)) i (pos 0) ≡ v) ⌝ }
 {
     let a = arithmetic::wide_at(s, i);
@@ -30,7 +30,8 @@ fn differs(s: &[i32], i: usize, v: i64) -> bool
 
 // is the first node's count other than this
 fn differs_count(s: &[i32], nodes: usize) -> bool
-    requires { ⌜ (width ≤ length (now s)) × (nodes < 4096) ⌝ }
+    requires space { ⌜ width ≤ length (now s) ⌝ }
+    requires few { ⌜ nodes < 4096 ⌝ }
     ensures unless { λ r. ⌜ Unless r (getD (now (s .entry)) countPlace (pos 0) ≡ pos nodes) ⌝ }
 {
     differs(s, COUNT, nodes as i64)
@@ -38,7 +39,7 @@ fn differs_count(s: &[i32], nodes: usize) -> bool
 
 // is the first node's strip another one in coordinate i
 fn differs_side(s: &[i32], i: usize, v: Extent) -> bool
-    requires { ⌜ (i < 2) × (width ≤ length (now s)) × SideSized (side v) ⌝ }
+    requires sizes { ⌜ (i < 2) × (width ≤ length (now s)) × SideSized (side v) ⌝ }
     ensures unless { λ r. ⌜ Unless r (HasSide (now (s .entry)) i (side v)) ⌝ }
 {
     if differs(s, i, v.centre) {
@@ -51,7 +52,7 @@ fn differs_side(s: &[i32], i: usize, v: Extent) -> bool
 }
 
 fn differs_strip(s: &[i32], x: Extent, y: Extent) -> bool
-    requires { ⌜ (width ≤ length (now s)) × SideSized (side x) × SideSized (side y) ⌝ }
+    requires sizes { ⌜ (width ≤ length (now s)) × SideSized (side x) × SideSized (side y) ⌝ }
     ensures unless { λ r. ⌜ Unless r (HasStrip (now (s .entry)) (stripOf x y)) ⌝ }
 {
     if differs_side(s, 0, x) {
@@ -70,7 +71,7 @@ pub fn begins_with(
     m: usize,
     limit: i64,
 ) -> usize
-    requires { ⌜ FormSized (form cx) × FormSized (form cy) × Halvable left n m × (isLong (subtree limit (form cx) (form cy) left n m) ≡ false) × (width * size (subtree limit (form cx) (form cy) left n m) ≤ length (now s)) ⌝ }
+    requires ready { ⌜ FormSized (form cx) × FormSized (form cy) × Halvable left n m × (isLong (subtree limit (form cx) (form cy) left n m) ≡ false) × (width * size (subtree limit (form cx) (form cy) left n m) ≤ length (now s)) ⌝ }
     ensures told { λ r. ⌜ Told r (size (subtree limit (form cx) (form cy) left n m)) (Begins (subtree limit (form cx) (form cy) left n m) (now (s .entry))) ⌝ }
 {
     let p = strips::piece_of(cx, cy, n, m, limit);

@@ -9,7 +9,7 @@ ghost use Rattle.powers.specs.Structs.{form};
 
 // The nodes of the subtree of the piece with N = n and the middle m, or 0 if some piece of it is too long.
 pub fn nodes_of(cx: Power, cy: Power, left: usize, n: usize, m: usize, limit: i64) -> usize
-    requires { ⌜ FormSized (form cx) × FormSized (form cy) × Halvable left n m ⌝ }
+    requires sizes { ⌜ FormSized (form cx) × FormSized (form cy) × Halvable left n m ⌝ }
     ensures counted { λ r. ⌜ r ≡ count (subtree limit (form cx) (form cy) left n m) ⌝ }
 {
     let p = strips::piece_of(cx, cy, n, m, limit);

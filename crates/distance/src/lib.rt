@@ -45,7 +45,7 @@ fn join(a: Bounds, b: Bounds) -> Bounds
 
 // over the leaves of the tree that part holds
 fn tree_bounds(part: &[i32], x: i64, y: i64) -> Bounds
-    requires { ⌜ TreeOf (now part) × (natAbs x ≤ 16000000) × (natAbs y ≤ 16000000) ⌝ }
+    requires held { ⌜ TreeOf (now part) × (natAbs x ≤ 16000000) × (natAbs y ≤ 16000000) ⌝ }
     ensures bounds { λ r. ⌜ ((t : Tree) → now (part .entry) ≡ flatten t → BoundsOf (pointAt x y) (leaves t) r) ⌝ }
 {
     let n = arithmetic::count_at(part, COUNT);
@@ -63,7 +63,7 @@ fn tree_bounds(part: &[i32], x: i64, y: i64) -> Bounds
 
 // the bounds of one more edge, put before those of the later ones
 fn join_edge(a: Bounds, b: Found) -> Found
-    requires { ⌜ b .edge < 64 ⌝ }
+    requires few { ⌜ b .edge < 64 ⌝ }
     ensures low { λ r. ⌜ r .lo ≡ lesser (a .lo) (b .lo) ⌝ }
     ensures high { λ r. ⌜ r .hi ≡ lesser (a .hi) (b .hi) ⌝ }
     ensures edge { λ r. ⌜ r .edge ≡ cond (ltZ (b .hi) (a .hi)) (b .edge + 1) 0 ⌝ }
@@ -88,7 +88,7 @@ fn join_edge(a: Bounds, b: Found) -> Found
 
 // over the trees of `count` edges, with which s begins; x and y are in fine units
 fn nearest_from(s: &[i32], count: usize, x: i64, y: i64) -> Found
-    requires { ⌜ TreesOf (now s) count × (0 < count) × (count ≤ 64) × (natAbs x ≤ 16000000) × (natAbs y ≤ 16000000) ⌝ }
+    requires held { ⌜ TreesOf (now s) count × (0 < count) × (count ≤ 64) × (natAbs x ≤ 16000000) × (natAbs y ≤ 16000000) ⌝ }
     ensures found { λ r. ⌜ ((ts : List Tree) → length ts ≡ count → BeginsAll ts (now (s .entry)) → FoundIn (pointAt x y) ts r) ⌝ }
 {
     let n = arithmetic::count_at(s, COUNT);
@@ -109,7 +109,7 @@ fn nearest_from(s: &[i32], count: usize, x: i64, y: i64) -> Found
 
 // of the point (x, y), over a job's trees, with which the store begins
 pub fn nearest(store: &[i32], count: usize, x: i32, y: i32) -> Found
-    requires { ⌜ TreesOf (now store) count × (0 < count) × (count ≤ 64) × (natAbs x ≤ 1000000) × (natAbs y ≤ 1000000) ⌝ }
+    requires held { ⌜ TreesOf (now store) count × (0 < count) × (count ≤ 64) × (natAbs x ≤ 1000000) × (natAbs y ≤ 1000000) ⌝ }
     ensures found { λ r. ⌜ ((ts : List Tree) → length ts ≡ count → begins (now (store .entry)) (flattenAll ts) ≡ true → (r .lo ≡ lo ts x y) × (r .hi ≡ hi ts x y) × Attains ts x y (r .edge)) ⌝ }
 {
     nearest_from(store, count, 16 * (x as i64), 16 * (y as i64))

@@ -31,7 +31,7 @@ pub struct Frame {
 
 // the middle of w columns from column c on, of half width q each, from x
 fn middle(x: i64, q: i64, c: usize, w: usize) -> i64
-    requires { ⌜ (natAbs x ≤ 16777216) × T (nonNeg q) × (2 * c + w ≤ 512) × ((2 * c + w) * natAbs q ≤ 16777216) ⌝ }
+    requires sizes { ⌜ (natAbs x ≤ 16777216) × T (nonNeg q) × (2 * c + w ≤ 512) × ((2 * c + w) * natAbs q ≤ 16777216) ⌝ }
     ensures place { λ r. ⌜ r ≡ middleOf x q c w ⌝ }
 {
     x + (2 * c + w) as i64 * q
@@ -39,7 +39,7 @@ fn middle(x: i64, q: i64, c: usize, w: usize) -> i64
 
 // half the side of w columns
 fn half_side(q: i64, w: usize) -> i64
-    requires { ⌜ T (nonNeg q) × (w ≤ 256) × (w * natAbs q ≤ 8388608) ⌝ }
+    requires sizes { ⌜ T (nonNeg q) × (w ≤ 256) × (w * natAbs q ≤ 8388608) ⌝ }
     ensures half { λ r. ⌜ r ≡ pos w *ℤ q ⌝ }
 {
     w as i64 * q
@@ -56,7 +56,8 @@ fn look(
     r: usize,
     w: usize,
 ) -> open_edges::Seen
-    requires { ⌜ Ready (now store) (now list) count frame c r w × (length (now keep) ≡ 64) ⌝ }
+    requires ready { ⌜ Ready (now store) (now list) count frame c r w ⌝ }
+    requires long { ⌜ length (now keep) ≡ 64 ⌝ }
     ensures long { λ a. ⌜ length (now (keep .exit)) ≡ 64 ⌝ }
     ensures yes { λ a. ⌜ (a .inside ≡ true → (ts : List Tree) → Starts (now (store .entry)) (take count (now (list .entry))) ts → exploreAll (asked frame c r w) ts ≡ inside) ⌝ }
     ensures no { λ a. ⌜ (a .inside ≡ false → (a .kept ≤ count) × ((ts : List Tree) → Starts (now (store .entry)) (take count (now (list .entry))) ts → (exploreAll (asked frame c r w) ts ≡ inside → ⊥) × Starts (now (store .entry)) (take (a .kept) (now (keep .exit))) (opened (asked frame c r w) ts))) ⌝ }
@@ -84,7 +85,8 @@ fn settle(
     r: usize,
     w: usize,
 ) -> Told
-    requires { ⌜ Ready (now store) (now list) count frame c r w × (length (now keep) ≡ 64) ⌝ }
+    requires ready { ⌜ Ready (now store) (now list) count frame c r w ⌝ }
+    requires long { ⌜ length (now keep) ≡ 64 ⌝ }
     ensures long { λ a. ⌜ length (now (keep .exit)) ≡ 64 ⌝ }
     ensures same { λ a. ⌜ ((a .letter ≡ 0 → ⊥) → (ts : List Tree) → Starts (now (store .entry)) (take count (now (list .entry))) ts → EachInherits (frame .reach) ts → (i j : ℕ) → In c r w i j → a .letter ≡ ownLetter frame ts i j) ⌝ }
     ensures open { λ a. ⌜ (a .letter ≡ 0 → (w ≡ 1 → ⊥) × (a .kept ≤ count) × ((ts : List Tree) → Starts (now (store .entry)) (take count (now (list .entry))) ts → Starts (now (store .entry)) (take (a .kept) (now (keep .exit))) (opened (asked frame c r w) ts))) ⌝ }
@@ -130,7 +132,8 @@ fn draw(
     r: usize,
     w: usize,
 )
-    requires { ⌜ Ready (now store) (now list) count frame c r w × (frame .n * frame .n ≤ length (now map)) ⌝ }
+    requires ready { ⌜ Ready (now store) (now list) count frame c r w ⌝ }
+    requires space { ⌜ frame .n * frame .n ≤ length (now map) ⌝ }
     ensures letters { λ _. ⌜ ((ts : List Tree) → Starts (now (store .entry)) (take count (now (list .entry))) ts → EachInherits (frame .reach) ts → Drawn (frame .n) (now (map .exit)) (now (map .entry)) (over (ownLetter frame ts) c r w)) ⌝ }
 {
     let mut keep = no_starts();
@@ -150,7 +153,7 @@ fn draw(
 }
 
 pub fn power_of_two(k: usize) -> usize
-    requires { ⌜ k ≤ 20 ⌝ }
+    requires small { ⌜ k ≤ 20 ⌝ }
     ensures power { λ r. ⌜ r ≡ 2 ^ k ⌝ }
 {
     let mut v: usize = 1;
@@ -164,7 +167,7 @@ pub fn power_of_two(k: usize) -> usize
 
 // the frame of a plate of side 2^n with its corner at (x, y) and smallest cells of side 2^m
 fn frame_of(x: i64, y: i64, n: usize, m: usize, reach: i64) -> Frame
-    requires { ⌜ NumbersSized x y n m reach ⌝ }
+    requires sizes { ⌜ NumbersSized x y n m reach ⌝ }
     ensures frame { λ f. ⌜ f ≡ frameOf x y n m reach ⌝ }
 {
     let side = power_of_two(n - m);
@@ -189,7 +192,7 @@ pub fn draw_map(
     m: usize,
     reach: i64,
 )
-    requires { ⌜ AnyReady (now cells) (now store) count x y n m reach ⌝ }
+    requires ready { ⌜ AnyReady (now cells) (now store) count x y n m reach ⌝ }
     ensures map { λ _. ⌜ ((j : Job) → MapReady j (now (cells .entry)) (now (store .entry)) count x y n m reach → now (cells .exit) ≡ written (mapOf j) (now (cells .entry))) ⌝ }
 {
     let mut list = no_starts();

@@ -17,7 +17,7 @@ ghost use Rattle.powers.specs.Structs.{form};
 ghost use Rattle.checking.specs.Answers.{Told};
 
 fn control(places: &[i32; 512], i: usize) -> i64
-    requires { ⌜ i < 512 ⌝ }
+    requires within { ⌜ i < 512 ⌝ }
     ensures element { λ r. ⌜ r ≡ getD (now (places .entry)) i (pos 0) ⌝ }
 {
     places[i] as i64
@@ -25,7 +25,7 @@ fn control(places: &[i32; 512], i: usize) -> i64
 
 // the power form of edge e in coordinate i
 fn power_of(places: &[i32; 512], e: usize, i: usize) -> Power
-    requires { ⌜ Limits (now places) × (e < 64) × (i < 2) ⌝ }
+    requires limits { ⌜ Limits (now places) × (e < 64) × (i < 2) ⌝ }
     ensures power { λ r. ⌜ form r ≡ formOf (cubicAt (now (places .entry)) (8 * e + i)) ⌝ }
 {
     let b = 8 * e + i;
@@ -40,7 +40,7 @@ fn power_of(places: &[i32; 512], e: usize, i: usize) -> Power
 
 // the nodes of the tree of edge e, or 0 if it is long
 pub fn count_edge(places: &[i32; 512], e: usize, grain: i64) -> usize
-    requires { ⌜ Limits (now places) × (e < 64) × (natAbs grain ≤ 100000) ⌝ }
+    requires limits { ⌜ Limits (now places) × (e < 64) × (natAbs grain ≤ 100000) ⌝ }
     ensures counted { λ r. ⌜ r ≡ count (tree grain (edgeAt (now (places .entry)) e)) ⌝ }
 {
     let cx = power_of(places, e, 0);
@@ -50,7 +50,7 @@ pub fn count_edge(places: &[i32; 512], e: usize, grain: i64) -> usize
 
 // writes the tree of edge e at the front of s, and returns its nodes
 pub fn build_edge(s: &mut [i32], places: &[i32; 512], e: usize, grain: i64) -> usize
-    requires { ⌜ Limits (now places) × (e < 64) × (natAbs grain ≤ 100000) × (isLong (tree grain (edgeAt (now places) e)) ≡ false) × (width * size (tree grain (edgeAt (now places) e)) ≤ length (now s)) ⌝ }
+    requires ready { ⌜ Limits (now places) × (e < 64) × (natAbs grain ≤ 100000) × (isLong (tree grain (edgeAt (now places) e)) ≡ false) × (width * size (tree grain (edgeAt (now places) e)) ≤ length (now s)) ⌝ }
     ensures nodes { λ r. ⌜ r ≡ size (tree grain (edgeAt (now (places .entry)) e)) ⌝ }
     ensures written { λ _. ⌜ now (s .exit) ≡ flatten (tree grain (edgeAt (now (places .entry)) e)) ++ drop (width * size (tree grain (edgeAt (now (places .entry)) e))) (now (s .entry)) ⌝ }
 {
@@ -61,7 +61,7 @@ pub fn build_edge(s: &mut [i32], places: &[i32; 512], e: usize, grain: i64) -> u
 
 // the nodes of the tree of edge e if s begins with it, and 0 otherwise
 pub fn check_edge(s: &[i32], places: &[i32; 512], e: usize, grain: i64) -> usize
-    requires { ⌜ Limits (now places) × (e < 64) × (natAbs grain ≤ 100000) × (isLong (tree grain (edgeAt (now places) e)) ≡ false) × (width * size (tree grain (edgeAt (now places) e)) ≤ length (now s)) ⌝ }
+    requires ready { ⌜ Limits (now places) × (e < 64) × (natAbs grain ≤ 100000) × (isLong (tree grain (edgeAt (now places) e)) ≡ false) × (width * size (tree grain (edgeAt (now places) e)) ≤ length (now s)) ⌝ }
     ensures told { λ r. ⌜ Told r (size (tree grain (edgeAt (now (places .entry)) e))) (Begins (tree grain (edgeAt (now (places .entry)) e)) (now (s .entry))) ⌝ }
 {
     let cx = power_of(places, e, 0);

@@ -70,7 +70,7 @@ pub extern "C" fn clearance_map(
 }
 
 fn edge_number(edge: usize) -> i64
-    requires { ⌜ edge < 64 ⌝ }
+    requires few { ⌜ edge < 64 ⌝ }
     ensures number { λ r. ⌜ r ≡ pos edge ⌝ }
 {
     edge as i64

@@ -18,7 +18,7 @@ fn fill(s: &mut [u8], b: u8)
 
 // w bytes from column c of row j become b
 fn fill_row(map: &mut [u8], n: usize, j: usize, c: usize, w: usize, b: u8)
-    requires { ⌜ (n ≤ 256) × (j < n) × (c + w ≤ n) × (n * n ≤ length (now map)) ⌝ }
+    requires within { ⌜ (n ≤ 256) × (j < n) × (c + w ≤ n) × (n * n ≤ length (now map)) ⌝ }
     ensures stretch { λ _. ⌜ now (map .exit) ≡ filled 0 (now (map .entry)) (j * n + c) w b ⌝ }
 {
     let a = j * n + c;
@@ -28,7 +28,7 @@ fn fill_row(map: &mut [u8], n: usize, j: usize, c: usize, w: usize, b: u8)
 
 // the square of w columns from column c and w rows from row r becomes b
 pub fn fill_square(map: &mut [u8], n: usize, c: usize, r: usize, w: usize, b: u8)
-    requires { ⌜ (n ≤ 256) × (c + w ≤ n) × (r + w ≤ n) × (n * n ≤ length (now map)) ⌝ }
+    requires within { ⌜ (n ≤ 256) × (c + w ≤ n) × (r + w ≤ n) × (n * n ≤ length (now map)) ⌝ }
     ensures square { λ _. ⌜ Drawn n (now (map .exit)) (now (map .entry)) (over (λ i j. b) c r w) ⌝ }
 {
     let end = r + w;

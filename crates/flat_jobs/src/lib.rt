@@ -66,14 +66,14 @@ pub fn job_from(numbers: &[i32]) -> Job
 }
 
 fn count_number(n: usize) -> i32
-    requires { ⌜ n ≤ 64 ⌝ }
+    requires few { ⌜ n ≤ 64 ⌝ }
     ensures number { λ r. ⌜ r ≡ pos n ⌝ }
 {
     n as i32
 }
 
 fn head_of(job: Job) -> [i32; 7]
-    requires { ⌜ job .count ≤ 64 ⌝ }
+    requires few { ⌜ job .count ≤ 64 ⌝ }
     ensures head { λ r. ⌜ r ≡ headOf job ⌝ }
 {
     let x = job.x;
@@ -88,7 +88,7 @@ fn head_of(job: Job) -> [i32; 7]
 
 // The numbers from place `at` on become those of `from`.
 fn put_from(numbers: &mut [i32], at: usize, from: &[i32])
-    requires { ⌜ at + length (now from) ≤ length (now numbers) ⌝ }
+    requires space { ⌜ at + length (now from) ≤ length (now numbers) ⌝ }
     ensures wrote { λ _. ⌜ now (numbers .exit) ≡ paste (now (numbers .entry)) at (now (from .entry)) (length (now (from .entry))) ⌝ }
 {
     let mut i: usize = 0;
@@ -102,7 +102,8 @@ fn put_from(numbers: &mut [i32], at: usize, from: &[i32])
 
 // The front of `numbers` becomes the job's row.
 pub fn put_job(job: Job, numbers: &mut [i32])
-    requires { ⌜ (job .count ≤ 64) × (519 ≤ length (now numbers)) ⌝ }
+    requires few { ⌜ job .count ≤ 64 ⌝ }
+    requires space { ⌜ 519 ≤ length (now numbers) ⌝ }
     ensures wrote { λ _. ⌜ now (numbers .exit) ≡ numbersOf job ++ drop 519 (now (numbers .entry)) ⌝ }
 {
     let head = head_of(job);

@@ -17,7 +17,7 @@ ghost use Rattle.forests.specs.Walk.{treesFrom, Says};
 
 // sum and the nodes of the trees, or 0 if one is long
 fn count_from(places: &[i32; 512], e: usize, count: usize, grain: i64, sum: usize) -> usize
-    requires { ⌜ Limits (now places) × (e ≤ count) × (count ≤ 64) × (natAbs grain ≤ 100000) × (sum ≤ 2048 * e) ⌝ }
+    requires limits { ⌜ Limits (now places) × (e ≤ count) × (count ≤ 64) × (natAbs grain ≤ 100000) × (sum ≤ 2048 * e) ⌝ }
     ensures counted { λ r. ⌜ r ≡ cond (anyLong (treesFrom grain (now (places .entry)) count e)) 0 (sum + sizes (treesFrom grain (now (places .entry)) count e)) ⌝ }
 {
     if e == count {
@@ -32,7 +32,7 @@ fn count_from(places: &[i32; 512], e: usize, count: usize, grain: i64, sum: usiz
 
 // writes the trees at the front of s
 fn build_from(s: &mut [i32], places: &[i32; 512], e: usize, count: usize, grain: i64)
-    requires { ⌜ Limits (now places) × (e ≤ count) × (count ≤ 64) × (natAbs grain ≤ 100000) × (anyLong (treesFrom grain (now places) count e) ≡ false) × (width * sizes (treesFrom grain (now places) count e) ≤ length (now s)) ⌝ }
+    requires ready { ⌜ Limits (now places) × (e ≤ count) × (count ≤ 64) × (natAbs grain ≤ 100000) × (anyLong (treesFrom grain (now places) count e) ≡ false) × (width * sizes (treesFrom grain (now places) count e) ≤ length (now s)) ⌝ }
     ensures written { λ _. ⌜ now (s .exit) ≡ flattenAll (treesFrom grain (now (places .entry)) count e) ++ drop (width * sizes (treesFrom grain (now (places .entry)) count e)) (now (s .entry)) ⌝ }
 {
     if e == count {
@@ -45,7 +45,7 @@ fn build_from(s: &mut [i32], places: &[i32; 512], e: usize, count: usize, grain:
 
 // does s begin with the trees
 fn holds_from(s: &[i32], places: &[i32; 512], e: usize, count: usize, grain: i64) -> bool
-    requires { ⌜ Limits (now places) × (e ≤ count) × (count ≤ 64) × (natAbs grain ≤ 100000) × (anyLong (treesFrom grain (now places) count e) ≡ false) × (width * sizes (treesFrom grain (now places) count e) ≤ length (now s)) ⌝ }
+    requires ready { ⌜ Limits (now places) × (e ≤ count) × (count ≤ 64) × (natAbs grain ≤ 100000) × (anyLong (treesFrom grain (now places) count e) ≡ false) × (width * sizes (treesFrom grain (now places) count e) ≤ length (now s)) ⌝ }
     ensures says { λ r. ⌜ Says r (BeginsAll (treesFrom grain (now (places .entry)) count e) (now (s .entry))) ⌝ }
 {
     if e == count {
@@ -63,7 +63,7 @@ fn holds_from(s: &[i32], places: &[i32; 512], e: usize, count: usize, grain: i64
 
 // the nodes of a job's trees, or 0 if one is long
 pub fn count_nodes(places: &[i32; 512], count: usize, grain: i32) -> usize
-    requires { ⌜ Limits (now places) × (count ≤ 64) × GrainSized grain ⌝ }
+    requires limits { ⌜ Limits (now places) × (count ≤ 64) × GrainSized grain ⌝ }
     ensures counted { λ r. ⌜ r ≡ cond (anyLong (trees grain (edgesFrom (now (places .entry)) count 0))) 0 (sizes (trees grain (edgesFrom (now (places .entry)) count 0))) ⌝ }
 {
     count_from(places, 0, count, grain as i64, 0)
@@ -71,7 +71,7 @@ pub fn count_nodes(places: &[i32; 512], count: usize, grain: i32) -> usize
 
 // writes a job's trees at the front of the store
 pub fn build_all(store: &mut [i32], places: &[i32; 512], count: usize, grain: i32)
-    requires { ⌜ Limits (now places) × (count ≤ 64) × GrainSized grain × (anyLong (trees grain (edgesFrom (now places) count 0)) ≡ false) × (width * sizes (trees grain (edgesFrom (now places) count 0)) ≤ length (now store)) ⌝ }
+    requires ready { ⌜ Limits (now places) × (count ≤ 64) × GrainSized grain × (anyLong (trees grain (edgesFrom (now places) count 0)) ≡ false) × (width * sizes (trees grain (edgesFrom (now places) count 0)) ≤ length (now store)) ⌝ }
     ensures written { λ _. ⌜ now (store .exit) ≡ flattenAll (trees grain (edgesFrom (now (places .entry)) count 0)) ++ drop (width * sizes (trees grain (edgesFrom (now (places .entry)) count 0))) (now (store .entry)) ⌝ }
 {
     build_from(store, places, 0, count, grain as i64);
@@ -79,7 +79,7 @@ pub fn build_all(store: &mut [i32], places: &[i32; 512], count: usize, grain: i3
 
 // does the store begin with a job's trees
 pub fn holds_all(store: &[i32], places: &[i32; 512], count: usize, grain: i32) -> bool
-    requires { ⌜ Limits (now places) × (count ≤ 64) × GrainSized grain × (anyLong (trees grain (edgesFrom (now places) count 0)) ≡ false) × (width * sizes (trees grain (edgesFrom (now places) count 0)) ≤ length (now store)) ⌝ }
+    requires ready { ⌜ Limits (now places) × (count ≤ 64) × GrainSized grain × (anyLong (trees grain (edgesFrom (now places) count 0)) ≡ false) × (width * sizes (trees grain (edgesFrom (now places) count 0)) ≤ length (now store)) ⌝ }
     ensures begins { λ r. ⌜ r ≡ begins (now (store .entry)) (flattenAll (trees grain (edgesFrom (now (places .entry)) count 0))) ⌝ }
 {
     holds_from(store, places, 0, count, grain as i64)

@@ -12,7 +12,7 @@ ghost use Rattle.sheet_text.specs.Forms.{marks, weight};
 ghost use Rattle.printing.specs.Puts.{Put};
 
 fn number(n: usize) -> i32
-    requires { ⌜ n ≤ 256 ⌝ }
+    requires small { ⌜ n ≤ 256 ⌝ }
     ensures same { λ r. ⌜ r ≡ pos n ⌝ }
 {
     n as i32
@@ -20,7 +20,7 @@ fn number(n: usize) -> i32
 
 // A line that says one number.
 fn put_line(out: &mut [u8], at: usize, form: &[u8], n: usize) -> usize
-    requires { ⌜ (n ≤ 256) × (marks (now form) ≡ 1) × (at + weight (now form) ≤ length (now out)) ⌝ }
+    requires sizes { ⌜ (n ≤ 256) × (marks (now form) ≡ 1) × (at + weight (now form) ≤ length (now out)) ⌝ }
     ensures wrote { λ r. ⌜ Put (now (out .entry)) (now (out .exit)) at r (writeForm (now (form .entry)) (pos n ∷ [])) ⌝ }
     ensures bound { λ r. ⌜ r ≤ at + weight (now (form .entry)) ⌝ }
 {
@@ -29,7 +29,8 @@ fn put_line(out: &mut [u8], at: usize, form: &[u8], n: usize) -> usize
 }
 
 pub fn put_refusal(out: &mut [u8], at: usize, refusal: usize) -> usize
-    requires { ⌜ (refusal ≤ 256) × (at + 19 ≤ length (now out)) ⌝ }
+    requires small { ⌜ refusal ≤ 256 ⌝ }
+    requires space { ⌜ at + 19 ≤ length (now out) ⌝ }
     ensures wrote { λ r. ⌜ Put (now (out .entry)) (now (out .exit)) at r (writeForm refusedForm (pos refusal ∷ [])) ⌝ }
     ensures bound { λ r. ⌜ r ≤ at + 19 ⌝ }
 {
@@ -38,7 +39,8 @@ pub fn put_refusal(out: &mut [u8], at: usize, refusal: usize) -> usize
 
 // The first line of a map of n cells a side.
 fn put_head(out: &mut [u8], at: usize, n: usize) -> usize
-    requires { ⌜ (n ≤ 256) × (at + 14 ≤ length (now out)) ⌝ }
+    requires small { ⌜ n ≤ 256 ⌝ }
+    requires space { ⌜ at + 14 ≤ length (now out) ⌝ }
     ensures wrote { λ r. ⌜ Put (now (out .entry)) (now (out .exit)) at r (writeForm mapForm (pos n ∷ [])) ⌝ }
     ensures bound { λ r. ⌜ r ≤ at + 14 ⌝ }
 {
@@ -46,7 +48,7 @@ fn put_head(out: &mut [u8], at: usize, n: usize) -> usize
 }
 
 fn put_row(out: &mut [u8], at: usize, row: &[u8]) -> usize
-    requires { ⌜ at + length (now row) + 7 ≤ length (now out) ⌝ }
+    requires space { ⌜ at + length (now row) + 7 ≤ length (now out) ⌝ }
     ensures wrote { λ r. ⌜ Put (now (out .entry)) (now (out .exit)) at r (rowText (now (row .entry))) ⌝ }
 {
     let a = put_bytes(out, at, b"(row ");
@@ -56,7 +58,7 @@ fn put_row(out: &mut [u8], at: usize, row: &[u8]) -> usize
 
 // The lines of the rows of a map of n cells a side.
 fn put_rows(out: &mut [u8], at: usize, cells: &[u8], n: usize) -> usize
-    requires { ⌜ (n ≤ 256) × (n * n ≤ length (now cells)) × (at + n * (n + 7) ≤ length (now out)) ⌝ }
+    requires sizes { ⌜ (n ≤ 256) × (n * n ≤ length (now cells)) × (at + n * (n + 7) ≤ length (now out)) ⌝ }
     ensures wrote { λ r. ⌜ Put (now (out .entry)) (now (out .exit)) at r (rowsText n n (now (cells .entry))) ⌝ }
     ensures bound { λ r. ⌜ r ≡ at + n * (n + 7) ⌝ }
 {
@@ -73,7 +75,7 @@ fn put_rows(out: &mut [u8], at: usize, cells: &[u8], n: usize) -> usize
 
 // A whole map of n cells a side, from the front of `out`.
 pub fn put_map(out: &mut [u8], cells: &[u8], n: usize) -> usize
-    requires { ⌜ (n ≤ 256) × (n * n ≤ length (now cells)) × (67344 ≤ length (now out)) ⌝ }
+    requires sizes { ⌜ (n ≤ 256) × (n * n ≤ length (now cells)) × (67344 ≤ length (now out)) ⌝ }
     ensures wrote { λ r. ⌜ Put (now (out .entry)) (now (out .exit)) 0 r (mapText n (now (cells .entry))) ⌝ }
     ensures bound { λ r. ⌜ r ≤ 67344 ⌝ }
 {

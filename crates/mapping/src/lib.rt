@@ -16,7 +16,7 @@ ghost use Rattle.mapping.specs.Checks.{Passed, Refuses};
 ghost use Rattle.mapping.specs.Placed.{Places};
 
 fn log_of(z: i32) -> usize
-    requires { ⌜ T (nonNeg z) ⌝ }
+    requires sign { ⌜ T (nonNeg z) ⌝ }
     ensures magnitude { λ r. ⌜ r ≡ natAbs z ⌝ }
 {
     z as usize
@@ -38,7 +38,7 @@ pub struct Placing {
 }
 
 fn placing_of(job: Job) -> Placing
-    requires { ⌜ jobs.judge job ≡ 0 ⌝ }
+    requires legal { ⌜ jobs.judge job ≡ 0 ⌝ }
     ensures placing { λ r. ⌜ Places r job ⌝ }
 {
     let x = wide(job.x);
@@ -51,7 +51,7 @@ fn placing_of(job: Job) -> Placing
 
 // The cells a side of a legal job's map.
 fn side_of(job: Job) -> usize
-    requires { ⌜ jobs.judge job ≡ 0 ⌝ }
+    requires legal { ⌜ jobs.judge job ≡ 0 ⌝ }
     ensures side { λ r. ⌜ r ≡ columns job ⌝ }
     ensures few { λ r. ⌜ r ≤ 256 ⌝ }
 {
@@ -108,7 +108,7 @@ fn go_through(job: Job, numbers: usize, room: usize) -> Checked
 
 // The job's trees into the store, and then its map from them.
 fn draw(job: Job, store: &mut [i32], cells: &mut [u8], nodes: usize)
-    requires { ⌜ Passed job (length (now store)) (length (now cells)) nodes ⌝ }
+    requires passed { ⌜ Passed job (length (now store)) (length (now cells)) nodes ⌝ }
     ensures trees { λ _. ⌜ now (store .exit) ≡ entries.over (storeOf job) (now (store .entry)) ⌝ }
     ensures letters { λ _. ⌜ now (cells .exit) ≡ entries.over (mapOf job) (now (cells .entry)) ⌝ }
 {

@@ -17,7 +17,7 @@ ghost use Rattle.open_edges.specs.Starts.{At, TreeAt, Starts, Forest};
 
 // the answer of the tree that starts at place a
 fn ask(store: &[i32], a: usize, x: i64, y: i64, s: i64, r: i64, enough: u8) -> u8
-    requires { ⌜ TreeAt (now store) a × CellSized x y s r × Enough x y s r enough ⌝ }
+    requires held { ⌜ TreeAt (now store) a × CellSized x y s r × Enough x y s r enough ⌝ }
     ensures answer { λ e. ⌜ ((t : Tree) → At (now (store .entry)) a t → e ≡ code (explore (verdict r (cellAt x y s)) t)) ⌝ }
 {
     let n = arithmetic::count_at(store, a + COUNT);
@@ -42,7 +42,7 @@ pub fn explore_open(
     s: i64,
     r: i64,
 ) -> Seen
-    requires { ⌜ (count ≤ 64) × Forest (now store) (take count (now list)) × CellSized x y s r × (length (now list) ≡ 64) × (length (now keep) ≡ 64) ⌝ }
+    requires held { ⌜ (count ≤ 64) × Forest (now store) (take count (now list)) × CellSized x y s r × (length (now list) ≡ 64) × (length (now keep) ≡ 64) ⌝ }
     ensures long { λ a. ⌜ length (now (keep .exit)) ≡ 64 ⌝ }
     ensures yes { λ a. ⌜ (a .inside ≡ true → (ts : List Tree) → Starts (now (store .entry)) (take count (now (list .entry))) ts → exploreAll (verdict r (cellAt x y s)) ts ≡ inside) ⌝ }
     ensures no { λ a. ⌜ (a .inside ≡ false → (a .kept ≤ count) × ((ts : List Tree) → Starts (now (store .entry)) (take count (now (list .entry))) ts → (exploreAll (verdict r (cellAt x y s)) ts ≡ inside → ⊥) × Starts (now (store .entry)) (take (a .kept) (now (keep .exit))) (opened (verdict r (cellAt x y s)) ts))) ⌝ }
@@ -73,7 +73,7 @@ pub fn explore_open(
 
 // where each edge's tree starts, from the subtree counts
 pub fn list_starts(store: &[i32], count: usize, list: &mut [usize; 64])
-    requires { ⌜ (count ≤ 64) × TreesOf (now store) count × (length (now list) ≡ 64) ⌝ }
+    requires held { ⌜ (count ≤ 64) × TreesOf (now store) count × (length (now list) ≡ 64) ⌝ }
     ensures long { λ _. ⌜ length (now (list .exit)) ≡ 64 ⌝ }
     ensures starts { λ _. ⌜ ((ts : List Tree) → Holds (now (store .entry)) count ts → Starts (now (store .entry)) (take count (now (list .exit))) ts) ⌝ }
 {

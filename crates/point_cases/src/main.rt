@@ -67,7 +67,7 @@ fn ask_changed(job: Job, store: &mut [i32], need: usize, at: usize) {
 
 // Stores of one number more, one less and none, and with the first, the middle and the last one changed.
 fn ask_stores(job: Job, store: &mut [i32], need: usize)
-    requires { ⌜ need ≤ 28672 ⌝ }
+    requires small { ⌜ need ≤ 28672 ⌝ }
 {
     let last = one_less(need);
     ask(job, 3, 4, store, need + 1);

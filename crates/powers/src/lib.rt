@@ -15,7 +15,7 @@ pub struct Power {
 }
 
 pub fn power_form(b0: i64, b1: i64, b2: i64, b3: i64) -> Power
-    requires { ⌜ ControlSized (cubic b0 b1 b2 b3) ⌝ }
+    requires sizes { ⌜ ControlSized (cubic b0 b1 b2 b3) ⌝ }
     ensures power { λ r. ⌜ form r ≡ formOf (cubic b0 b1 b2 b3) ⌝ }
 {
     let c1 = 3 * (b1 - b0);
@@ -32,7 +32,7 @@ pub fn power_form(b0: i64, b1: i64, b2: i64, b3: i64) -> Power
 // ---- a0 to a2 of the piece with N = n and the middle m; a3 is c3. Each says how large it is: a caller multiplies it.
 
 pub fn a0_of(c: Power, n: i64, m: i64) -> i64
-    requires { ⌜ FormSized (form c) × (natAbs n ≤ 2048) × (natAbs m ≤ 2048) ⌝ }
+    requires sizes { ⌜ FormSized (form c) × (natAbs n ≤ 2048) × (natAbs m ≤ 2048) ⌝ }
     ensures a0 { λ r. ⌜ (r ≡ a0 (form c) n m) × (natAbs r ≤ 231928233984000000) ⌝ }
 {
     let c0 = c.c0;
@@ -43,7 +43,7 @@ pub fn a0_of(c: Power, n: i64, m: i64) -> i64
 }
 
 pub fn a1_of(c: Power, n: i64, m: i64) -> i64
-    requires { ⌜ FormSized (form c) × (natAbs n ≤ 2048) × (natAbs m ≤ 2048) ⌝ }
+    requires sizes { ⌜ FormSized (form c) × (natAbs n ≤ 2048) × (natAbs m ≤ 2048) ⌝ }
     ensures a1 { λ r. ⌜ (r ≡ a1 (form c) n m) × (natAbs r ≤ 226492416000000) ⌝ }
 {
     let c1 = c.c1;
@@ -53,7 +53,7 @@ pub fn a1_of(c: Power, n: i64, m: i64) -> i64
 }
 
 pub fn a2_of(c: Power, n: i64, m: i64) -> i64
-    requires { ⌜ FormSized (form c) × (natAbs n ≤ 2048) × (natAbs m ≤ 2048) ⌝ }
+    requires sizes { ⌜ FormSized (form c) × (natAbs n ≤ 2048) × (natAbs m ≤ 2048) ⌝ }
     ensures a2 { λ r. ⌜ (r ≡ a2 (form c) n m) × (natAbs r ≤ 73728000000) ⌝ }
 {
     let c2 = c.c2;

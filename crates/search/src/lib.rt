@@ -22,7 +22,7 @@ ghost use Rattle.search.specs.Cells.{CellSized, cellAt, Enough};
 
 // the answer of the first node of part by itself
 fn own(part: &[i32], x: i64, y: i64, s: i64, r: i64) -> u8
-    requires { ⌜ (width ≤ length (now part)) × Sized (stripIn (now part)) × CellSized x y s r ⌝ }
+    requires sizes { ⌜ (width ≤ length (now part)) × Sized (stripIn (now part)) × CellSized x y s r ⌝ }
     ensures answer { λ a. ⌜ a ≡ code (verdict r (cellAt x y s) (stripIn (now (part .entry)))) ⌝ }
 {
     let wx = x - wide_at(part, 0);
@@ -42,7 +42,7 @@ fn join(l: u8, r: u8) -> u8
 
 // the answer of the tree that part holds. No node answers above enough
 pub fn search(part: &[i32], x: i64, y: i64, s: i64, r: i64, enough: u8) -> u8
-    requires { ⌜ TreeOf (now part) × CellSized x y s r × Enough x y s r enough ⌝ }
+    requires held { ⌜ TreeOf (now part) × CellSized x y s r × Enough x y s r enough ⌝ }
     ensures answer { λ a. ⌜ ((t : Tree) → AllSized t → now (part .entry) ≡ flatten t → a ≡ code (explore (verdict r (cellAt x y s)) t)) ⌝ }
 {
     let here = own(part, x, y, s, r);
@@ -65,7 +65,7 @@ pub fn search(part: &[i32], x: i64, y: i64, s: i64, r: i64, enough: u8) -> u8
 
 // 1 where the cell alone is too wide for a strip to be inside, else 2
 pub fn enough_for(s: i64, r: i64) -> u8
-    requires { ⌜ (natAbs s ≤ 134217728) × T (nonNeg s) × (natAbs r ≤ 16777216) ⌝ }
+    requires sizes { ⌜ (natAbs s ≤ 134217728) × T (nonNeg s) × (natAbs r ≤ 16777216) ⌝ }
     ensures stop { λ e. ⌜ ((x y : ℤ) → Enough x y s r e) ⌝ }
 {
     if r * r <= 2 * s * s { 1 } else { 2 }

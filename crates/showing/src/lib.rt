@@ -13,7 +13,7 @@ ghost use Rattle.printing.specs.Puts.{Put};
 
 // The answer to a job, with 16,380 numbers and 65,536 bytes lent to the library. A map of 256 cells a side takes 67,344 bytes at most.
 fn put_answer(job: Job, out: &mut [u8]) -> usize
-    requires { ⌜ 67344 ≤ length (now out) ⌝ }
+    requires space { ⌜ 67344 ≤ length (now out) ⌝ }
     ensures wrote { λ r. ⌜ Put (now (out .entry)) (now (out .exit)) 0 r (mapAnswered 0 job) ⌝ }
     ensures bound { λ r. ⌜ r ≤ 67344 ⌝ }
 {
@@ -30,7 +30,7 @@ fn put_answer(job: Job, out: &mut [u8]) -> usize
 
 // The answer to a sheet: what the program prints.
 pub fn put_printed(sheet: &[u8], out: &mut [u8]) -> usize
-    requires { ⌜ 67344 ≤ length (now out) ⌝ }
+    requires space { ⌜ 67344 ≤ length (now out) ⌝ }
     ensures wrote { λ r. ⌜ Put (now (out .entry)) (now (out .exit)) 0 r (printed (now (sheet .entry))) ⌝ }
     ensures bound { λ r. ⌜ r ≤ 67344 ⌝ }
 {

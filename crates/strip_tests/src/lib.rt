@@ -17,7 +17,7 @@ fn most(a: i64, b: i64) -> i64
 
 // what a is above e, or 0
 fn excess(a: i64, e: i64) -> i64
-    requires { ⌜ (natAbs a ≤ 1073741824) × (natAbs e ≤ 1073741824) ⌝ }
+    requires sizes { ⌜ (natAbs a ≤ 1073741824) × (natAbs e ≤ 1073741824) ⌝ }
     ensures over { λ r. ⌜ r ≡ excessBy a e ⌝ }
 {
     if a < e { 0 } else { a - e }
@@ -31,7 +31,7 @@ fn cap(k: i64) -> i64
 }
 
 fn inside(ax: i64, ay: i64, ex: i64, ey: i64, r: i64) -> bool
-    requires { ⌜ SpanSized ax ay ex ey r ⌝ }
+    requires sizes { ⌜ SpanSized ax ay ex ey r ⌝ }
     ensures told { λ b. ⌜ b ≡ insideBy ax ay ex ey r ⌝ }
 {
     let fx = ax + ex;
@@ -40,7 +40,7 @@ fn inside(ax: i64, ay: i64, ex: i64, ey: i64, r: i64) -> bool
 }
 
 fn apart(ax: i64, ay: i64, ex: i64, ey: i64, r: i64) -> bool
-    requires { ⌜ SpanSized ax ay ex ey r ⌝ }
+    requires sizes { ⌜ SpanSized ax ay ex ey r ⌝ }
     ensures told { λ b. ⌜ b ≡ apartBy ax ay ex ey r ⌝ }
 {
     let gx = excess(ax, ex);
@@ -51,7 +51,7 @@ fn apart(ax: i64, ay: i64, ex: i64, ey: i64, r: i64) -> bool
 // cross > r * L, with L the root of pp rounded up: just where pp is at most the square of (cross - 1) / r. low is a whole number up to
 // L: most calls end at it, without a division
 fn beyond(cross: i64, r: i64, low: i64, pp: i64) -> bool
-    requires { ⌜ CrossSized cross r low pp ⌝ }
+    requires sizes { ⌜ CrossSized cross r low pp ⌝ }
     ensures told { λ b. ⌜ b ≡ isBeyond cross r pp ⌝ }
 {
     if r * low < cross {
@@ -63,7 +63,7 @@ fn beyond(cross: i64, r: i64, low: i64, pp: i64) -> bool
 }
 
 fn slanted(wx: i64, wy: i64, p: i64, q: i64, a: i64, b: i64, r: i64) -> bool
-    requires { ⌜ NodeSized wx wy p q a b r ⌝ }
+    requires sizes { ⌜ NodeSized wx wy p q a b r ⌝ }
     ensures told { λ t. ⌜ t ≡ slantedBy wx wy p q a b r ⌝ }
 {
     let ap = abs(p);
@@ -74,7 +74,7 @@ fn slanted(wx: i64, wy: i64, p: i64, q: i64, a: i64, b: i64, r: i64) -> bool
 
 // the strip's answer: 0 away, 1 maybe, 2 inside
 pub fn judge(wx: i64, wy: i64, p: i64, q: i64, a: i64, b: i64, r: i64) -> u8
-    requires { ⌜ NodeSized wx wy p q a b r ⌝ }
+    requires sizes { ⌜ NodeSized wx wy p q a b r ⌝ }
     ensures answer { λ t. ⌜ t ≡ code (judgeBy wx wy p q a b r) ⌝ }
 {
     let ax = abs(wx);

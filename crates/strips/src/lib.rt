@@ -28,7 +28,7 @@ pub struct Piece {
 // ---- the four quotients by N³, a power of two, and the box
 
 fn centre_of(c: Power, n: i64, m: i64, cube: i64) -> i64
-    requires { ⌜ FormSized (form c) × (natAbs n ≤ 2048) × (natAbs m ≤ 2048) × (natAbs cube ≤ 8589934592) × (0 < natAbs cube) × T (nonNeg cube) ⌝ }
+    requires sizes { ⌜ FormSized (form c) × (natAbs n ≤ 2048) × (natAbs m ≤ 2048) × (natAbs cube ≤ 8589934592) × (0 < natAbs cube) × T (nonNeg cube) ⌝ }
     ensures centre { λ r. ⌜ r ≡ centreBy (form c) n m (natAbs cube) ⌝ }
 {
     let a0 = powers::a0_of(c, n, m);
@@ -37,7 +37,7 @@ fn centre_of(c: Power, n: i64, m: i64, cube: i64) -> i64
 }
 
 fn axis_of(c: Power, n: i64, m: i64, cube: i64) -> i64
-    requires { ⌜ FormSized (form c) × (natAbs n ≤ 2048) × (natAbs m ≤ 2048) × (natAbs cube ≤ 8589934592) × (0 < natAbs cube) × T (nonNeg cube) ⌝ }
+    requires sizes { ⌜ FormSized (form c) × (natAbs n ≤ 2048) × (natAbs m ≤ 2048) × (natAbs cube ≤ 8589934592) × (0 < natAbs cube) × T (nonNeg cube) ⌝ }
     ensures axis { λ r. ⌜ r ≡ axisBy (form c) n m (natAbs cube) ⌝ }
 {
     let a1 = powers::a1_of(c, n, m);
@@ -46,7 +46,7 @@ fn axis_of(c: Power, n: i64, m: i64, cube: i64) -> i64
 }
 
 fn box_of(c: Power, n: i64, m: i64, cube: i64) -> i64
-    requires { ⌜ FormSized (form c) × (natAbs n ≤ 2048) × (natAbs m ≤ 2048) × (natAbs cube ≤ 8589934592) × (0 < natAbs cube) × T (nonNeg cube) × (natAbs (secondBy (form c) n m (natAbs cube)) ≤ 1000000000) × (natAbs (thirdBy (form c) (natAbs cube)) ≤ 1000000000) ⌝ }
+    requires sizes { ⌜ FormSized (form c) × (natAbs n ≤ 2048) × (natAbs m ≤ 2048) × (natAbs cube ≤ 8589934592) × (0 < natAbs cube) × T (nonNeg cube) × (natAbs (secondBy (form c) n m (natAbs cube)) ≤ 1000000000) × (natAbs (thirdBy (form c) (natAbs cube)) ≤ 1000000000) ⌝ }
     ensures half { λ r. ⌜ r ≡ boxBy (form c) n m (natAbs cube) ⌝ }
 {
     let a2 = powers::a2_of(c, n, m);
@@ -58,7 +58,7 @@ fn box_of(c: Power, n: i64, m: i64, cube: i64) -> i64
 
 // the strip of the piece with N = n and the middle m, in one coordinate
 fn extent_of(c: Power, n: usize, m: usize) -> Extent
-    requires { ⌜ FormSized (form c) × (2 ≤ n) × (n ≤ 2048) × (m ≤ n) ⌝ }
+    requires sizes { ⌜ FormSized (form c) × (2 ≤ n) × (n ≤ 2048) × (m ≤ n) ⌝ }
     ensures strip { λ r. ⌜ side r ≡ sideBy (form c) n m ⌝ }
 {
     let a = n as i64;
@@ -77,7 +77,7 @@ fn extent_of(c: Power, n: usize, m: usize) -> Extent
 // ---- short: no upright box half above the limit, which is 16 grains
 
 fn fits(s: Extent, limit: i64) -> bool
-    requires { ⌜ SideSized (side s) ⌝ }
+    requires sizes { ⌜ SideSized (side s) ⌝ }
     ensures short { λ r. ⌜ r ≡ fitsIn limit (side s) ⌝ }
 {
     let axis = s.axis;
@@ -86,7 +86,7 @@ fn fits(s: Extent, limit: i64) -> bool
 }
 
 fn is_short(x: Extent, y: Extent, limit: i64) -> bool
-    requires { ⌜ SideSized (side x) × SideSized (side y) ⌝ }
+    requires sizes { ⌜ SideSized (side x) × SideSized (side y) ⌝ }
     ensures short { λ r. ⌜ r ≡ shortIn limit (side x) (side y) ⌝ }
 {
     if fits(x, limit) {
@@ -98,7 +98,7 @@ fn is_short(x: Extent, y: Extent, limit: i64) -> bool
 
 // a piece's strip in both coordinates
 pub fn piece_of(cx: Power, cy: Power, n: usize, m: usize, limit: i64) -> Piece
-    requires { ⌜ FormSized (form cx) × FormSized (form cy) × (2 ≤ n) × (n ≤ 2048) × (m ≤ n) ⌝ }
+    requires sizes { ⌜ FormSized (form cx) × FormSized (form cy) × (2 ≤ n) × (n ≤ 2048) × (m ≤ n) ⌝ }
     ensures strip { λ r. ⌜ (side (r .x) ≡ sideBy (form cx) n m) × (side (r .y) ≡ sideBy (form cy) n m) ⌝ }
     ensures short { λ r. ⌜ r .short ≡ shortBy limit (form cx) (form cy) n m ⌝ }
 {
