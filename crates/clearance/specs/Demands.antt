@@ -2,7 +2,7 @@
 use mathlib.Core.Path.{_≡_, refl, sym, _∙_, subst}
 use mathlib.Core.Bool.{Bool, true, false, not, cond, _&&_}
 use mathlib.Core.List.{List}
-use Prim.Native.Nat.{ℕ, zero, suc, _+_, _*_, _<_}
+use Prim.Native.Nat.{ℕ, _+_, _*_, _<_}
 use native.Mathlib.Nat.{mul-le-mul-right}
 use native.Mathlib.Omega.{arith}
 use lib.Dec.{leb}
@@ -11,7 +11,6 @@ use lib.ListN.{length, drop, List·getD-append}
 use Rattle.sequences.specs.RowMajor.{length-rowMajor}
 use Rattle.model.specs.declared.Job.{Job}
 use Rattle.model.specs.declared.Nearest.{Nearest}
-use Rattle.model.specs.Refusals.{accepted}
 use Rattle.model.specs.Jobs.{coordinate, counted, ranged, celled, judge}
 use Rattle.model.specs.Trees.{anyLong}
 use Rattle.model.specs.Store.{width, forest, nodesOf}
@@ -19,14 +18,10 @@ use Rattle.model.specs.Plates.{letter, mapped, columns, cellsOf, mapOf}
 use Rattle.model.specs.Distance.{lo, hi}
 use Rattle.model.specs.Entries.{over, mapRefusal, map, mapCells, pointRefusal, IsNearest}
 use Rattle.model.specs.Promises.{MapHolds, Bounds, wholePoint}
-use Rattle.ranges.specs.Legal.{both, passed}
+use Rattle.integers.specs.Tests.{both}
+use Rattle.ranges.specs.Refusals.{passed, accepted-is}
 use Rattle.verdicts.specs.DemandThree.{demand-three}
 use Rattle.verdicts.specs.PointBounds.{point-bounds}
-
-pub accepted-is : (n : ℕ) {A : Type 0} (a b : A) → n ≡ 0 → accepted n a b ≡ a
-unfolding accepted
-accepted-is zero a b e = refl
-accepted-is (suc n) a b e = absurd (omega arith)
 
 negated : (b : Bool) → not b ≡ true → b ≡ false
 negated false e = refl

@@ -1,43 +1,33 @@
 -- Laws of the least value over a list of strips: of two lists together, and that some strip attains it. Assumes nothing.
-use mathlib.Core.Path.{_≡_, refl, sym, ap, _∙_, subst}
-use mathlib.Core.Bool.{Bool, true, false, cond, not}
+use mathlib.Core.Path.{_≡_, refl, ap, _∙_}
+use mathlib.Core.Bool.{Bool, true, false, cond}
 use mathlib.Core.List.{List, [], _∷_, _++_}
 use mathlib.Core.Logic.{inl, inr}
-use Prim.Native.Nat.{ℕ, zero, suc, _+_, _≤_, _<_}
+use Prim.Native.Nat.{ℕ, zero, suc, _≤_, _<_}
 use native.Mathlib.Omega.{arith}
-use lib.Dec.{T}
 use lib.IntN.{ℤ}
 use lib.ListN.{length, length-append}
-use lib.Signed.{ltZ, ltZ-yes, ltZ-no, clashℤ}
-use Rattle.integers.specs.Order.{_≼_, _≺_}
+use lib.Signed.{ltZ, clashℤ}
+use Rattle.integers.specs.Tests.{lt-true, lt-false, true-lt}
+use Rattle.integers.specs.Order.{_≼_}
 use Rattle.integers.specs.Inequalities.{≼-trans, ≺-≼-trans, weak}
 use Rattle.model.specs.Strips.{Strip}
 use Rattle.model.specs.Trees.{Tree, leaf, long, node}
 use Rattle.model.specs.Distance.{leaves, leavesAll, leavesAt, lesser, least, Some}
 
 -- ---- the lesser of two
-is-true : (b : Bool) → T b → b ≡ true
-is-true true t = refl
-is-true false t = absurd t
-
-less : (a b : ℤ) → ltZ a b ≡ true → a ≺ b
-less a b e = ltZ-yes (subst T (sym e) tt)
-
-not-less : (a b : ℤ) → ltZ a b ≡ false → b ≼ a
-not-less a b e = ltZ-no (subst (λ (t : Bool). T (not t)) (sym e) tt)
-
 is-false : (a b : ℤ) → b ≼ a → (t : Bool) → ltZ a b ≡ t → t ≡ false
-is-false a b h true e = clashℤ (less a b e) h
+is-false a b h true e = clashℤ (lt-true {a = a} {b = b} e) h
 is-false a b h false e = refl
 
 pub lesser-assoc : (a b c : ℤ) → lesser a (lesser b c) ≡ lesser (lesser a b) c
 lesser-assoc a b c = go (ltZ c b) (ltZ b a) refl refl
   where
     go : (p q : Bool) → ltZ c b ≡ p → ltZ b a ≡ q → lesser a (lesser b c) ≡ lesser (lesser a b) c
-    go true true e f = rw (e, f, e, is-true (ltZ c a) (≺-≼-trans (less c b e) (weak (less b a f)) .lt))
+    go true true e f = rw (e, f, e, true-lt {a = c} {b = a} (≺-≼-trans (lt-true {a = c} {b = b} e) (weak (lt-true {a = b} {b = a} f))))
     go true false e f = rw (e, f)
     go false true e f = rw (e, f, e)
-    go false false e f = rw (e, f, is-false c a (≼-trans (not-less b a f) (not-less c b e)) (ltZ c a) refl)
+    go false false e f = rw (e, f, is-false c a (≼-trans (lt-false {a = b} {b = a} f) (lt-false {a = c} {b = b} e)) (ltZ c a) refl)
 
 -- ---- least values
 module _ (f : Strip → ℤ) where

@@ -1,7 +1,7 @@
 -- From a job's numbers to its frame, and from the cells drawn to the job's map. Assumes nothing.
 use mathlib.Core.Path.{_≡_, refl, sym, ap, ap₂, _∙_, subst}
 use mathlib.Core.List.{List, _++_}
-use Prim.Native.Nat.{ℕ, zero, suc, _+_, _-_, _*_, _^_, _≤_, _<_}
+use Prim.Native.Nat.{ℕ, _+_, _-_, _*_, _^_, _≤_, _<_}
 use native.Mathlib.Nat.{mul-comm}
 use native.Mathlib.Omega.{arith}
 use lib.Dec.{T, leb→le}
@@ -17,7 +17,7 @@ use Rattle.integers.specs.Inequalities.{≼-trans}
 use Rattle.integers.specs.Signed.{natAbs-mul}
 use Rattle.sequences.specs.RowMajor.{rowMajor, length-rowMajor, is-rowMajor}
 use Rattle.model.specs.declared.Job.{Job}
-use Rattle.model.specs.Jobs.{outline, edgesFrom, plateLog, cellLog, judge}
+use Rattle.model.specs.Jobs.{plateLog, cellLog, judge}
 use Rattle.model.specs.Trees.{trees}
 use Rattle.model.specs.Store.{forest}
 use Rattle.model.specs.Explore.{Cell, verdict, exploreAll}

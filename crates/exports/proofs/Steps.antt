@@ -2,7 +2,7 @@
 use mathlib.Core.Path.{_≡_, refl, sym, ap, _∙_, subst}
 use mathlib.Core.Bool.{Bool, cond}
 use mathlib.Core.List.{List, [], _∷_, _++_}
-use Prim.Native.Nat.{ℕ, zero, suc, _^_, _≤_, _<_}
+use Prim.Native.Nat.{ℕ, _^_, _≤_, _<_}
 use native.Mathlib.Omega.{arith}
 use lib.IntN.{ℤ, pos}
 use lib.Signed.{mag}
@@ -17,6 +17,7 @@ use Rattle.model.specs.declared.Written.{Written}
 use Rattle.model.specs.declared.Map.{Map}
 use Rattle.model.specs.declared.Nearest.{Nearest}
 use Rattle.model.specs.Refusals.{accepted}
+use Rattle.ranges.specs.Refusals.{accepted-is, refused-is}
 use Rattle.model.specs.Entries as entries
 use Rattle.model.specs.Entries.{IsNearest}
 use Rattle.model.specs.Promises.{MapHolds, Bounds, wholePoint}
@@ -33,15 +34,11 @@ pub few-edges : (sheet : List ℕ) (r : Read) → r ≡ entries.read sheet → r
 few-edges sheet r e = subst (λ (q : Read). q .job .count ≤ 64) (sym e) (read-few sheet)
 
 -- ---- what an accepted call leaves, and a refused one
-none : (A : Type 0) (n : ℕ) (a b : A) → n ≡ 0 → a ≡ accepted n a b
-unfolding accepted
-none A zero a b e = refl
-none A (suc n) a b e = absurd (omega arith)
+left : {A : Type 0} (n : ℕ) (a b : A) → n ≡ 0 → a ≡ accepted n a b
+left n a b e = sym (accepted-is n a b e)
 
-some : (A : Type 0) (n : ℕ) (a b : A) → 0 < n → b ≡ accepted n a b
-unfolding accepted
-some A zero a b h = absurd (omega arith)
-some A (suc n) a b h = refl
+kept : {A : Type 0} (n : ℕ) (a b : A) → 0 < n → b ≡ accepted n a b
+kept n a b h = sym (refused-is n a b (λ e. omega (arith, h)))
 
 -- ---- a sheet refused, accepted with no room, accepted with room
 module _ (sheet : List ℕ) (row : List ℤ) (r : Read) (e : r ≡ entries.read sheet) where
@@ -51,21 +48,21 @@ module _ (sheet : List ℕ) (row : List ℤ) (r : Read) (e : r ≡ entries.read 
   pub refused : 0 < r .refusal → (r .refusal ≡ readRefusal sheet row) × (row ≡ readLeaves sheet row)
   unfolding readRefusal readLeaves
   refused h =
-      let k : r .refusal ≡ readRefusal sheet row = number ∙ some ℕ (entries.read sheet .refusal) _ _ (omega (arith, h, number)) in
-      (k, some (List ℤ) (readRefusal sheet row) _ row (omega (arith, h, k)))
+      let k : r .refusal ≡ readRefusal sheet row = number ∙ kept (entries.read sheet .refusal) _ _ (omega (arith, h, number)) in
+      (k, kept (readRefusal sheet row) _ row (omega (arith, h, k)))
 
   pub no-room : r .refusal ≡ 0 → length row < 519 → (7 ≡ readRefusal sheet row) × (row ≡ readLeaves sheet row)
   unfolding readRefusal readLeaves
   no-room z h =
-      let k : 7 ≡ readRefusal sheet row = ap (λ (b : Bool). cond b 0 7) (sym (lt-leb 519 (length row) h)) ∙ none ℕ (entries.read sheet .refusal) _ _ (sym number ∙ z) in
-      (k, some (List ℤ) (readRefusal sheet row) _ row (omega (arith, k)))
+      let k : 7 ≡ readRefusal sheet row = ap (λ (b : Bool). cond b 0 7) (sym (lt-leb 519 (length row) h)) ∙ left (entries.read sheet .refusal) _ _ (sym number ∙ z) in
+      (k, kept (readRefusal sheet row) _ row (omega (arith, k)))
 
   pub room : (after : List ℤ) → r .refusal ≡ 0 → 519 ≤ length row → after ≡ numbersOf (r .job) ++ drop 519 row → (0 ≡ readRefusal sheet row) × (after ≡ readLeaves sheet row)
   unfolding readRefusal readLeaves
   room after z h w =
-      let k : 0 ≡ readRefusal sheet row = ap (λ (b : Bool). cond b 0 7) (sym (le-leb 519 (length row) h)) ∙ none ℕ (entries.read sheet .refusal) _ _ (sym number ∙ z) in (
+      let k : 0 ≡ readRefusal sheet row = ap (λ (b : Bool). cond b 0 7) (sym (le-leb 519 (length row) h)) ∙ left (entries.read sheet .refusal) _ _ (sym number ∙ z) in (
         k,
-        w ∙ ap (λ (q : Read). numbersOf (q .job) ++ drop 519 row) e ∙ none (List ℤ) (readRefusal sheet row) _ row (sym k),
+        w ∙ ap (λ (q : Read). numbersOf (q .job) ++ drop 519 row) e ∙ left (readRefusal sheet row) _ row (sym k),
       )
 
 -- ---- writing and drawing: the job is that of the row
@@ -83,14 +80,14 @@ module _ (vs : List ℤ) (j : Job) (row : j ≡ jobFrom vs) where
 
     pub not-written : 0 < w .refusal → Wrote out after old (w .refusal) old
     unfolding bytesLeft
-    not-written h = (write-number, (some ℕ (entries.write (jobFrom vs) out .refusal) _ old (omega (arith, h, write-number)), f ∙ ap (λ (k : Job). entries.writeLeaves k out) row))
+    not-written h = (write-number, (kept (entries.write (jobFrom vs) out .refusal) _ old (omega (arith, h, write-number)), f ∙ ap (λ (k : Job). entries.writeLeaves k out) row))
 
     pub written : w .refusal ≡ 0 → Wrote out after old 0 (w .bytes)
     unfolding bytesLeft
     written z = (
       sym z ∙ write-number,
       (
-        ap (λ (q : Written). q .bytes) same-write ∙ none ℕ (entries.write (jobFrom vs) out .refusal) _ old (sym write-number ∙ z),
+        ap (λ (q : Written). q .bytes) same-write ∙ left (entries.write (jobFrom vs) out .refusal) _ old (sym write-number ∙ z),
         f ∙ ap (λ (k : Job). entries.writeLeaves k out) row,
       ),
     )
@@ -114,13 +111,13 @@ module _ (vs : List ℤ) (j : Job) (row : j ≡ jobFrom vs) where
 
     pub not-drawn : 0 < m .refusal → Drew store after cells letters old (m .refusal) old
     unfolding nodesLeft
-    not-drawn p = (map-number, (some ℕ (entries.map (jobFrom vs) store cells .refusal) _ old (omega (arith, p, map-number)), lent (m .refusal) refl))
+    not-drawn p = (map-number, (kept (entries.map (jobFrom vs) store cells .refusal) _ old (omega (arith, p, map-number)), lent (m .refusal) refl))
 
     pub drawn : m .refusal ≡ 0 → Drew store after cells letters old 0 (m .nodes)
     unfolding nodesLeft
     drawn z = (
       sym z ∙ map-number,
-      (ap (λ (q : Map). q .nodes) same-map ∙ none ℕ (entries.map (jobFrom vs) store cells .refusal) _ old (sym map-number ∙ z), lent 0 z),
+      (ap (λ (q : Map). q .nodes) same-map ∙ left (entries.map (jobFrom vs) store cells .refusal) _ old (sym map-number ∙ z), lent 0 z),
     )
 
   -- ---- a point, whose coordinates and answers are read back from their bits
@@ -135,9 +132,9 @@ module _ (vs : List ℤ) (j : Job) (row : j ≡ jobFrom vs) where
     }
 
     pub not-answered : 0 < r .refusal → Answered (jobFrom vs) x y store old (r .refusal) old
-    not-answered h = answer (r .refusal) old refl (some (List ℤ) (r .refusal) _ old h)
+    not-answered h = answer (r .refusal) old refl (kept (r .refusal) _ old h)
 
     pub answered : (e : ℤ) → mag (r .lo) < 2 ^ 63 → mag (r .hi) < 2 ^ 63 → mag e < 2 ^ 63 → e ≡ pos (r .edge) → r .refusal ≡ 0 → Answered (jobFrom vs) x y store old 0 (toZ w64 (ofZ w64 (r .lo)) ∷ toZ w64 (ofZ w64 (r .hi)) ∷ toZ w64 (ofZ w64 e) ∷ [])
     answered e hl hh he f z =
         let told : toZ w64 (ofZ w64 (r .lo)) ∷ toZ w64 (ofZ w64 (r .hi)) ∷ toZ w64 (ofZ w64 e) ∷ [] ≡ r .lo ∷ r .hi ∷ pos (r .edge) ∷ [] = rw (read64 (r .lo) hl, read64 (r .hi) hh, read64 e he, f) in
-        answer 0 _ z (told ∙ none (List ℤ) (r .refusal) (r .lo ∷ r .hi ∷ pos (r .edge) ∷ []) old z)
+        answer 0 _ z (told ∙ left (r .refusal) (r .lo ∷ r .hi ∷ pos (r .edge) ∷ []) old z)

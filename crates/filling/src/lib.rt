@@ -1,6 +1,6 @@
 // Squares of a map that is held row by row, n bytes a row: a stretch of bytes, of a row, of a square, filled with one byte.
 ghost use mathlib.Core.Path.{_≡_};
-ghost use Prim.Native.Nat.{ℕ, _+_, _*_, _≤_, _<_};
+ghost use Prim.Native.Nat.{_+_, _*_, _≤_, _<_};
 ghost use lib.ListN.{length, replicate};
 ghost use Rattle.sequences.specs.Stretches.{filled};
 ghost use Rattle.filling.specs.Squares.{over, Drawn};

@@ -11,7 +11,7 @@ use Rattle.integers.specs.Absolute.{abs-+, absℤ, abs-nonneg, abs-≼}
 use Rattle.model.specs.Strips.{Side, Strip}
 use Rattle.model.specs.Explore.{Cell, squares, farthest, atLeast0, room, closest, isInside, isAway₁, isAway₂, lengthOf}
 use Rattle.integers.specs.Within.{Within, own-abs, times}
-use Rattle.verdicts.specs.Answers.{lt-true, true-lt}
+use Rattle.integers.specs.Tests.{lt-true, true-lt}
 use Rattle.verdicts.specs.Tests.{at0-nonneg, at0-least}
 
 -- d lies in c

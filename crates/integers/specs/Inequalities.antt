@@ -2,13 +2,13 @@
 use mathlib.Core.Path.{sym, subst}
 use mathlib.Core.Bool.{Bool, true, false, not}
 use mathlib.Core.Logic.{_⊎_, inl, inr, ⊎-elim}
-use Prim.Native.Nat.{ℕ, zero, suc, _+_, _*_, _<_}
+use Prim.Native.Nat.{ℕ, zero, suc, _*_, _<_}
 use native.Mathlib.Omega.{arith}
 use lib.Dec.{T}
 use lib.IntN.{ℤ, pos, _+ℤ_, _*ℤ_}
 use lib.Signed.{ltZ, ltZ-yes, ltZ-no, clashℤ}
 use Rattle.integers.specs.RingSolver.{name₂, name₃, name₄, reify, close, ok}
-use Rattle.integers.specs.Order.{_≼_, _≺_, num⁺, nat⁺, _⊞_, _⊠_, gap, gap⁺, le-by, lt-by}
+use Rattle.integers.specs.Order.{_≼_, _≺_, num⁺, nat⁺, _⊠_, gap, gap⁺, le-by, lt-by}
 use Rattle.integers.specs.Omega.{zarith}
 
 -- facts, and what follows from them: `from (h & k) (name₂ x y λ σ p q. simp (p, q, reify, σ) (omega zarith))`

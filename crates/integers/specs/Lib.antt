@@ -6,6 +6,8 @@ pub mod RingSolver
 pub mod Order
 pub mod Omega
 pub mod Inequalities
+-- tests that came out true or false
+pub mod Tests
 -- sizes: absolute values, numbers within a bound
 pub mod Absolute
 pub mod Within

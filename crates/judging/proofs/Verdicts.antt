@@ -14,7 +14,8 @@ use lib.ListN.{length, getD, drop}
 use borrow.Author.Tests.{ne-eqb, lt-ltb, le-ltb, le-leb, lt-leb, leb-true, not-true, not-false}
 use Rattle.model.specs.declared.Job.{Job}
 use Rattle.model.specs.Jobs.{between, coordinate, isZero, placed, ranged, celled, counted, judge}
-use Rattle.sheet_text.specs.Tests.{no-way, both}
+use Rattle.integers.specs.Tests.{both}
+use Rattle.sheet_text.specs.Tests.{no-way}
 use Rattle.judging.specs.Turns.{place, placed-on, placed-done}
 
 read-leq : (a b : ℤ) → SFits w32 a → SFits w32 b → leZ (toZ w32 (ofZ w32 a)) (toZ w32 (ofZ w32 b)) ≡ leZ a b

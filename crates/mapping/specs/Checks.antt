@@ -10,7 +10,8 @@ use borrow.Author.Tests.{le-leb, lt-leb}
 use Rattle.model.specs.declared.Job.{Job}
 use Rattle.model.specs.declared.Map.{Map}
 use Rattle.model.specs.Refusals as refused
-use Rattle.model.specs.Refusals.{check, accepted}
+use Rattle.model.specs.Refusals.{check}
+use Rattle.ranges.specs.Refusals.{accepted-is, refused-is}
 use Rattle.model.specs.Jobs.{counted, ranged, celled, judge, edgesFrom}
 use Rattle.model.specs.Trees.{trees, anyLong}
 use Rattle.model.specs.Store.{width, sizes, forest, nodesOf, storeOf}
@@ -97,39 +98,28 @@ pub record Refuses (j : Job) (numbers room k : ℕ) : Type 0 where
 
 -- ---- the answer and what it leaves
 module _ (j : Job) (s : List ℤ) (c : List ℕ) where
-  refused-is : (k n : ℕ) {A : Type 0} (a b : A) → k ≡ n → (k ≡ 0 → ⊥) → accepted n a b ≡ b
-  unfolding accepted
-  refused-is zero n a b e h = absurd (h refl)
-  refused-is (suc k) zero a b e h = absurd (omega arith)
-  refused-is (suc k) (suc n) a b e h = refl
-
-  accepted-is : (n : ℕ) {A : Type 0} (a b : A) → 0 ≡ n → accepted n a b ≡ a
-  unfolding accepted
-  accepted-is zero a b e = refl
-  accepted-is (suc n) a b e = absurd (omega arith)
-
   module _ (k : ℕ) (e : k ≡ mapRefusal j s c) (h : k ≡ 0 → ⊥) where
     pub refused-answer : _≡_ {A = Map} (record { refusal = k; nodes = 0 }) (map j s c)
     unfolding map
-    refused-answer = λ i. record { refusal = e i; nodes = sym (refused-is k (mapRefusal j s c) (nodesOf j) 0 e h) i }
+    refused-answer = λ i. record { refusal = e i; nodes = sym (refused-is (mapRefusal j s c) (nodesOf j) 0 (λ z. h (e ∙ z))) i }
 
     pub refused-store : s ≡ mapStore j s c
     unfolding mapStore
-    refused-store = sym (refused-is k (mapRefusal j s c) (over (storeOf j) s) s e h)
+    refused-store = sym (refused-is (mapRefusal j s c) (over (storeOf j) s) s (λ z. h (e ∙ z)))
 
     pub refused-cells : c ≡ mapCells j s c
     unfolding mapCells
-    refused-cells = sym (refused-is k (mapRefusal j s c) (over (mapOf j) c) c e h)
+    refused-cells = sym (refused-is (mapRefusal j s c) (over (mapOf j) c) c (λ z. h (e ∙ z)))
 
   module _ (e : 0 ≡ mapRefusal j s c) where
     pub accepted-answer : (n : ℕ) → n ≡ nodesOf j → _≡_ {A = Map} (record { refusal = 0; nodes = n }) (map j s c)
     unfolding map
-    accepted-answer n f = λ i. record { refusal = e i; nodes = (f ∙ sym (accepted-is (mapRefusal j s c) (nodesOf j) 0 e)) i }
+    accepted-answer n f = λ i. record { refusal = e i; nodes = (f ∙ sym (accepted-is (mapRefusal j s c) (nodesOf j) 0 (sym e))) i }
 
     pub accepted-store : (t : List ℤ) → t ≡ over (storeOf j) s → t ≡ mapStore j s c
     unfolding mapStore
-    accepted-store t f = f ∙ sym (accepted-is (mapRefusal j s c) (over (storeOf j) s) s e)
+    accepted-store t f = f ∙ sym (accepted-is (mapRefusal j s c) (over (storeOf j) s) s (sym e))
 
     pub accepted-cells : (d : List ℕ) → d ≡ over (mapOf j) c → d ≡ mapCells j s c
     unfolding mapCells
-    accepted-cells d f = f ∙ sym (accepted-is (mapRefusal j s c) (over (mapOf j) c) c e)
+    accepted-cells d f = f ∙ sym (accepted-is (mapRefusal j s c) (over (mapOf j) c) c (sym e))

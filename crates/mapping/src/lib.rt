@@ -8,6 +8,7 @@ ghost use lib.Dec.{T};
 ghost use lib.IntN.{natAbs};
 ghost use lib.Signed.{nonNeg};
 ghost use lib.ListN.{length};
+ghost use Rattle.model.specs.Refusals.{accepted};
 ghost use Rattle.model.specs.Jobs as jobs;
 ghost use Rattle.model.specs.Store.{storeOf};
 ghost use Rattle.model.specs.Plates.{columns, mapOf};
@@ -61,7 +62,7 @@ fn side_of(job: Job) -> usize
 
 // The cells a side of a job's map, or 0 where the job is refused by itself.
 pub fn cells_a_side(job: Job) -> usize
-    ensures side { λ r. ⌜ (jobs.judge job ≡ 0 → r ≡ columns job) ⌝ }
+    ensures side { λ r. ⌜ r ≡ accepted (jobs.judge job) (columns job) 0 ⌝ }
     ensures few { λ r. ⌜ r ≤ 256 ⌝ }
 {
     if judging::judge(job) != 0 {

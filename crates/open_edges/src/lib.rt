@@ -5,7 +5,7 @@ use arithmetic::WIDTH;
 ghost use mathlib.Core.Path.{_≡_};
 ghost use mathlib.Core.Bool.{true, false};
 ghost use mathlib.Core.List.{List};
-ghost use Prim.Native.Nat.{ℕ, _≤_};
+ghost use Prim.Native.Nat.{_≤_};
 ghost use lib.ListN.{length, take};
 ghost use Rattle.model.specs.Trees.{Tree};
 ghost use Rattle.model.specs.Explore.{verdict, explore, exploreAll, inside};

@@ -8,6 +8,7 @@ use borrow.Author.Tests.{lt-leb, le-leb}
 use lib.Dec.{leb}
 use lib.IntN.{ℤ, pos, natAbs}
 use lib.ListN.{length}
+use Rattle.integers.specs.Tests.{both}
 use Rattle.model.specs.declared.Job.{Job}
 use Rattle.model.specs.declared.Nearest.{Nearest}
 use Rattle.model.specs.Refusals.{accepted}
@@ -38,10 +39,6 @@ all-three false b c h = absurd (omega arith)
 all-three true false c h = absurd (omega arith)
 all-three true true false h = absurd (omega arith)
 all-three true true true h = (refl, refl, refl)
-
-both : (a b : Bool) → (a && b) ≡ true → (a ≡ true) × (b ≡ true)
-both true b e = (refl, e)
-both false b e = (e, cc)
 
 module _ (j : Job) (x y : ℤ) (store : List ℤ) where
   -- ---- a refusal, and an answer

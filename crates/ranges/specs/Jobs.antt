@@ -8,10 +8,11 @@ use lib.Dec.{T, eqb→eq}
 use lib.IntN.{ℤ, pos, negsuc, natAbs}
 use lib.Signed.{leZ, nonNeg}
 use lib.ListN.{getD}
+use Rattle.integers.specs.Tests.{both, le-of}
 use Rattle.model.specs.declared.Job.{Job}
 use Rattle.model.specs.Jobs.{between, coordinate, isZero, placed, counted, ranged, judge, cubicAt, edgeAt, edgesFrom, outline}
 use Rattle.model.specs.Store.{forest}
-use Rattle.ranges.specs.Legal.{both, le-of, all-passed, is-counted, is-ranged}
+use Rattle.ranges.specs.Legal.{all-passed, is-counted, is-ranged}
 use Rattle.ranges.specs.Sizes.{ControlSized, EachSized}
 use Rattle.ranges.specs.Strips.{EdgeSized, EdgesSized, trees-sized}
 

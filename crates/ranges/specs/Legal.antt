@@ -1,26 +1,14 @@
 -- What a job that is judged 0 has: each test of the limits passed. Assumes nothing.
-use mathlib.Core.Path.{_≡_, refl, sym, subst}
-use mathlib.Core.Bool.{Bool, true, false, cond, _&&_}
-use Prim.Native.Nat.{ℕ, suc, _*_, _≤_}
-use native.Mathlib.Omega.{arith}
-use lib.Dec.{T, leb, leb→le}
+use mathlib.Core.Path.{_≡_}
+use mathlib.Core.Bool.{true}
+use Prim.Native.Nat.{_*_, _≤_}
+use lib.Dec.{leb}
 use lib.IntN.{pos, _-ℤ_}
 use lib.Signed.{leZ}
+use Rattle.integers.specs.Tests.{both, le-of}
 use Rattle.model.specs.declared.Job.{Job}
 use Rattle.model.specs.Jobs.{between, coordinate, placed, counted, ranged, celled, judge}
-
--- ---- tests that passed
-pub both : (a b : Bool) → (a && b) ≡ true → (a ≡ true) × (b ≡ true)
-both true b e = (refl, e)
-both false b e = (e, cc)
-
-pub le-of : (m n : ℕ) → leb m n ≡ true → m ≤ n
-le-of m n e = leb→le m n (subst T (sym e) tt)
-
--- a check that gave 0 passed, and so did those after it
-pub passed : (b : Bool) (n k : ℕ) → cond b n (suc k) ≡ 0 → (b ≡ true) × (n ≡ 0)
-passed true n k e = (refl, e)
-passed false n k e = absurd (omega arith)
+use Rattle.ranges.specs.Refusals.{passed}
 
 pub record InRange (j : Job) : Type 0 where
   pub x-in : coordinate (j .x) ≡ true

@@ -12,7 +12,8 @@ use borrow.Author.Tests.{eqb-true, eq-eqb}
 use Rattle.model.specs.Bytes.{Got, got, none, given, digit}
 use Rattle.model.specs.Numbers.{text, number}
 use Rattle.model.specs.Forms.{writeForm, byte, readForm}
-use Rattle.sheet_text.specs.Tests.{no-way, yes, no, both}
+use Rattle.integers.specs.Tests.{both}
+use Rattle.sheet_text.specs.Tests.{no-way, yes, no}
 use Rattle.sheet_text.specs.Numbers.{Small, number-text, text-number, text-long}
 
 -- ---- how many numbers a form has, how many bytes its text has at most, and that it is sound

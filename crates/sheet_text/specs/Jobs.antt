@@ -13,7 +13,8 @@ use Rattle.model.specs.declared.Job.{Job}
 use Rattle.model.specs.Jobs.{between, coordinate, isZero, placed, judge}
 use Rattle.ranges.specs.Legal as limits
 use Rattle.model.specs.Sheets.{fit}
-use Rattle.sheet_text.specs.Tests.{no-way, both}
+use Rattle.integers.specs.Tests.{both}
+use Rattle.sheet_text.specs.Tests.{no-way}
 use Rattle.sheet_text.specs.Numbers.{Small}
 use Rattle.sheet_text.specs.Forms.{AllSmall}
 

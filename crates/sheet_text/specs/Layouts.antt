@@ -14,7 +14,8 @@ use borrow.Author.Tests.{eqb-true, le-leb, leb-true}
 use Rattle.model.specs.Bytes.{Got, got, none, given}
 use Rattle.model.specs.Forms.{writeForm, readForm}
 use Rattle.model.specs.Layouts.{Section, section, Line, Lines, writeLines, writeAll, readLines, readAll}
-use Rattle.sheet_text.specs.Tests.{no-way, yes, both}
+use Rattle.integers.specs.Tests.{both}
+use Rattle.sheet_text.specs.Tests.{no-way, yes}
 use Rattle.sheet_text.specs.Forms.{byteThen, piece, put, number-step, byte-same, byte-other, marks, sound, ends, AllSmall, form-text, text-form}
 
 -- ---- two forms part at a byte, after the same bytes and as many numbers

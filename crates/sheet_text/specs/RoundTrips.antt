@@ -21,6 +21,7 @@ use Rattle.model.specs.Refusals.{accepted}
 use Rattle.model.specs.Jobs.{judge, zeroJob, counted, ranged, celled}
 use Rattle.model.specs.Sheets.{jobForm, plateForm, cellForm, reachForm, grainForm, edgeForm, endForm, tailLayout, layout, defaultGrain, stated, edgeLines, linesOf, sheetOf, joined, fit, jobOf, Sheet, lines, broken, readSheet}
 use Rattle.model.specs.Entries.{readAnswer, read, writeRefusal, write, writeLeaves}
+use Rattle.ranges.specs.Refusals.{accepted-is}
 use Rattle.model.specs.Promises.{JobKept, SheetKept, WriteRead, Kept, readAs}
 use Rattle.sheet_text.specs.Numbers.{Small}
 use Rattle.sheet_text.specs.Forms.{marks, AllSmall, nil-small, cons-small}
@@ -207,15 +208,11 @@ pub sheet-kept : SheetKept
 unfolding read readAnswer
 sheet-kept s h = go (readSheet s) refl h
   where
-    was-accepted : (k : ℕ) (j : Job) → k ≡ 0 → accepted k j zeroJob ≡ j
-    was-accepted zero j h = unfold accepted in refl
-    was-accepted (suc k) j h = absurd (omega arith)
-
     go : (r : Sheet) → readSheet s ≡ r → readAnswer r .refusal ≡ 0 → Kept s (sheetOf (readAnswer r .job))
     go broken e h = absurd (omega (arith, h))
     go (lines gs) e h =
         let w = text-sheet s gs e in
-        subst (λ j. Kept s (sheetOf j)) (sym (was-accepted (judge (jobOf gs)) (jobOf gs) h)) (kept-lines s gs (w .text) (w .fits) (legal (jobOf gs) h .few))
+        subst (λ j. Kept s (sheetOf j)) (sym (accepted-is (judge (jobOf gs)) (jobOf gs) zeroJob h)) (kept-lines s gs (w .text) (w .fits) (legal (jobOf gs) h .few))
 
 -- ---- what an accepted write leaves
 -- a write passes the checks on the job, and then has room
@@ -229,11 +226,6 @@ write-passes false b c d h = absurd (omega arith)
 pub write-legal : (j : Job) (out : List ℕ) → writeRefusal j out ≡ 0 → judge j ≡ 0
 unfolding writeRefusal judge
 write-legal j out h = let p = write-passes (counted j) (ranged j) (celled j) (leb (length (sheetOf j)) (length out)) h in rw (p .0, p .1, p .2)
-
-accepted-is : {A : Type 0} (k : ℕ) (a b : A) → k ≡ 0 → accepted k a b ≡ a
-unfolding accepted
-accepted-is zero a b h = refl
-accepted-is (suc k) a b h = absurd (omega arith)
 
 pub write-read : WriteRead
 unfolding write writeLeaves

@@ -1,6 +1,6 @@
 -- What follows where a test comes out true or false. Assumes nothing.
 use mathlib.Core.Path.{_≡_, refl, sym}
-use mathlib.Core.Bool.{Bool, true, false, _&&_}
+use mathlib.Core.Bool.{Bool, true, false}
 use Prim.Native.Nat.{ℕ}
 use native.Mathlib.Omega.{arith}
 
@@ -14,7 +14,3 @@ yes false a b h = no-way h
 pub no : {A : Type 0} (t : Bool) (a b : A) → t ≡ false → elim t [ true ↦ a | false ↦ b ] ≡ b
 no true a b h = no-way (sym h)
 no false a b h = refl
-
-pub both : (a b : Bool) → (a && b) ≡ true → (a ≡ true) × (b ≡ true)
-both true b h = (refl, h)
-both false b h = no-way h

@@ -1,7 +1,7 @@
 -- The needs of the program's answers, over plain variables. Assumes nothing.
 use mathlib.Core.Path.{_≡_, refl, sym, ap, _∙_}
 use mathlib.Core.List.{List, [], _∷_, _++_}
-use Prim.Native.Nat.{ℕ, zero, suc, _+_, _*_, _≤_, _<_}
+use Prim.Native.Nat.{ℕ, zero, suc, _*_, _≤_, _<_}
 use native.Mathlib.Omega.{arith}
 use lib.IntN.{ℤ, pos}
 use lib.ListN.{length, take, drop, length-drop}
@@ -15,7 +15,8 @@ use Rattle.model.specs.Plates.{columns, mapOf}
 use Rattle.model.specs.Entries as entries
 use Rattle.model.specs.Entries.{over, mapRefusal, mapCells}
 use Rattle.model.specs.Printing.{refusedForm, mapForm, rowText, rowsText, mapText, answered, mapAnswered, printed}
-use Rattle.clearance.specs.Demands.{map-long, map-judged, accepted-is}
+use Rattle.ranges.specs.Refusals.{accepted-is}
+use Rattle.clearance.specs.Demands.{map-long, map-judged}
 
 -- ---- rows are looked for at the front only
 take-front : (n : ℕ) (xs ys : List ℕ) → n ≤ length xs → take n (xs ++ ys) ≡ take n xs

@@ -2,9 +2,8 @@
 // "Exploring the plate", each over plain numbers: w from the strip's centre to the cell's, the axis (p, q), the box halves with the half side.
 use arithmetic::abs;
 ghost use mathlib.Core.Path.{_≡_};
-ghost use Prim.Native.Nat.{ℕ, _≤_};
-ghost use lib.IntN.{ℤ, natAbs};
-ghost use Rattle.integers.specs.Absolute.{absℤ};
+ghost use Prim.Native.Nat.{_≤_};
+ghost use lib.IntN.{natAbs};
 ghost use Rattle.strip_tests.specs.PlainTests.{insideBy, apartBy, excessBy, mostBy, capBy, isBeyond, slantedBy, judgeBy, code};
 ghost use Rattle.strip_tests.specs.Limits.{SpanSized, CrossSized, NodeSized};
 

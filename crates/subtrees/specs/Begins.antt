@@ -1,12 +1,13 @@
 -- The model's test `begins` of a store, and a list that begins with trees, say the same. Assumes nothing.
 use mathlib.Core.Path.{_≡_, refl, sym, ap, ap₂, _∙_, subst}
-use mathlib.Core.Bool.{Bool, true, false, _&&_}
+use mathlib.Core.Bool.{true}
 use mathlib.Core.List.{List, [], _∷_, _++_}
 use Prim.Native.Nat.{ℕ, _*_}
 use borrow.Author.Tests.{eqb-true, eq-eqb}
 use lib.Dec.{T}
 use lib.IntN.{ℤ, pos, negsuc}
 use lib.ListN.{length, drop}
+use Rattle.integers.specs.Tests.{both}
 use Rattle.model.specs.Sheets.{same}
 use Rattle.model.specs.Trees.{Tree}
 use Rattle.model.specs.Store.{width, sizes, flattenAll, begins}
@@ -23,10 +24,6 @@ same-self : (z : ℤ) → same z z ≡ true
 unfolding same
 same-self (pos n) = eq-eqb n n refl
 same-self (negsuc n) = eq-eqb n n refl
-
-both : (a b : Bool) → (a && b) ≡ true → (a ≡ true) × (b ≡ true)
-both true b e = (refl, e)
-both false b e = (e, cc)
 
 begins-is : (s ns : List ℤ) → begins s ns ≡ true → s ≡ ns ++ drop (length ns) s
 unfolding begins

@@ -1,13 +1,9 @@
 -- Answers, by cases: what a joined or settled answer tells of its parts, a judged one of its tests, a verdict of its answer. Assumes nothing.
-use mathlib.Core.Path.{_≡_, refl, sym, subst}
-use mathlib.Core.Bool.{Bool, true, false, not, _||_, _&&_}
+use mathlib.Core.Path.{_≡_, refl}
+use mathlib.Core.Bool.{Bool, true, false}
 use mathlib.Core.Logic.{_⊎_, inl, inr}
 use Prim.Native.Nat.{ℕ}
 use native.Mathlib.Omega.{arith}
-use lib.Dec.{T}
-use lib.IntN.{ℤ}
-use lib.Signed.{leZ, ltZ, leZ-yes, ltZ-yes, ltZ-no}
-use Rattle.integers.specs.Order.{_≼_, _≺_}
 use Rattle.model.specs.Explore.{Answer, inside, away, maybe, judge, join, settle}
 use Rattle.model.specs.Plates.{clear, within, doubtful, mixed, settled}
 
@@ -15,35 +11,7 @@ use Rattle.model.specs.Plates.{clear, within, doubtful, mixed, settled}
 pub clash : {X : Type 0} → _≡_ {A = ℕ} 0 1 → X
 clash e = absurd (omega arith)
 
--- ---- tests
-pub lt-true : {a b : ℤ} → ltZ a b ≡ true → a ≺ b
-lt-true e = ltZ-yes (subst T (sym e) tt)
-
-pub lt-false : {a b : ℤ} → ltZ a b ≡ false → b ≼ a
-lt-false e = ltZ-no (subst (λ b. T (not b)) (sym e) tt)
-
-pub le-true : {a b : ℤ} → leZ a b ≡ true → a ≼ b
-le-true e = leZ-yes (subst T (sym e) tt)
-
-yes : (b : Bool) → T b → b ≡ true
-yes true t = refl
-yes false t = absurd t
-
-pub true-lt : {a b : ℤ} → a ≺ b → ltZ a b ≡ true
-true-lt {a} {b} h = yes (ltZ a b) (h .lt)
-
-pub or-true : (a b : Bool) → (a || b) ≡ true → (a ≡ true) ⊎ (b ≡ true)
-or-true true b e = inl refl
-or-true false b e = inr e
-
-pub or-false : (a b : Bool) → (a || b) ≡ false → (a ≡ false) × (b ≡ false)
-or-false true b e = clash (cc)
-or-false false b e = (refl, e)
-
-pub and-true : (a b : Bool) → (a && b) ≡ true → (a ≡ true) × (b ≡ true)
-and-true true b e = (refl, e)
-and-true false b e = clash (cc)
-
+-- ---- a strip's answer, by its tests
 pub judge-inside : (a b : Bool) → judge a b ≡ inside → a ≡ true
 judge-inside true b e = refl
 judge-inside false true e = clash (cc)

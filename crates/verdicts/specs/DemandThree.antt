@@ -25,7 +25,8 @@ use Rattle.model.specs.Promises.{DemandThree, ExactUnique}
 use Rattle.sequences.specs.RowMajor.{getD-rowMajor}
 use Rattle.enclosure.specs.Covers.{CoversAll}
 use Rattle.enclosure.specs.Edges.{trees-cover}
-use Rattle.verdicts.specs.Answers.{clash, or-false, settled-clear, settled-within, settled-doubtful, settled-mixed}
+use Rattle.integers.specs.Tests.{or-false}
+use Rattle.verdicts.specs.Answers.{clash, settled-clear, settled-within, settled-doubtful, settled-mixed}
 use Rattle.verdicts.specs.Tests.{halfFine, spill}
 use Rattle.verdicts.specs.Trees.{Shorts, AllShorts}
 use Rattle.verdicts.specs.Cells.{cell-inside, cell-away, cell-lower, cell-upper}

@@ -8,7 +8,7 @@ use Rattle.integers.specs.Order.{_≼_}
 use Rattle.model.specs.declared.Job.{Job}
 use Rattle.model.specs.Jobs.{between, coordinate, judge, placed}
 use Rattle.ranges.specs.Legal as limits
-use Rattle.verdicts.specs.Answers.{le-true, and-true}
+use Rattle.integers.specs.Tests.{le-true, both}
 
 pub record Between (lo hi z : ℤ) : Type 0 where
   pub from : lo ≼ z
@@ -16,7 +16,7 @@ pub record Between (lo hi z : ℤ) : Type 0 where
 
 pub between-true : {lo hi z : ℤ} → between lo hi z ≡ true → Between lo hi z
 unfolding between
-between-true {lo} {hi} {z} e = let h = and-true (leZ lo z) (leZ z hi) e in record { from = le-true (h .0); to = le-true (h .1) }
+between-true {lo} {hi} {z} e = let h = both (leZ lo z) (leZ z hi) e in record { from = le-true (h .0); to = le-true (h .1) }
 
 abbrev pub Coordinate : ℤ → Type 0
 Coordinate z = Between (negsuc 999999) (pos 1000000) z

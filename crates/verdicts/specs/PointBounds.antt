@@ -23,7 +23,7 @@ use Rattle.model.specs.Exact.{Points}
 use Rattle.model.specs.Distance.{spot, leaves, leavesAll, least, lo, hi, Some}
 use Rattle.model.specs.Promises.{Bounds, wholePoint, PointBounds}
 use Rattle.enclosure.specs.Covers.{In, Covers, at-leaf, at-long, at-node, CoversAll, at-end, at-cons}
-use Rattle.verdicts.specs.Answers.{lt-true, lt-false}
+use Rattle.integers.specs.Tests.{lt-true, lt-false}
 use Rattle.verdicts.specs.Apart.{InCell}
 use Rattle.verdicts.specs.Tests.{at-most-farthest, at-least-closest}
 use Rattle.verdicts.specs.Legal.{legal}

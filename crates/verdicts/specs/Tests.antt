@@ -15,7 +15,8 @@ use Rattle.model.specs.Strips.{Strip, fits, short}
 use Rattle.model.specs.Explore.{Cell, farthest, atLeast0, room, closest, farthest², closest², isInside, isAway₁, isAway₂, lengthOf, verdict}
 use Rattle.integers.specs.Within.{Within}
 use Rattle.enclosure.specs.Covers.{In}
-use Rattle.verdicts.specs.Answers.{lt-true, lt-false, le-true, or-true, or-false, and-true, judge-inside, judge-away, judge-maybe}
+use Rattle.integers.specs.Tests.{lt-true, lt-false, le-true, or-true, or-false, both}
+use Rattle.verdicts.specs.Answers.{judge-inside, judge-away, judge-maybe}
 use Rattle.verdicts.specs.Apart.{InCell, apartX, apartY, apartD, apart-up, apart-is, spreadX, spreadY}
 use Rattle.verdicts.specs.Distances.{reach-bound, gap-bound, most-squared, least-squared, below, above, across-far, band-upper, band-lower, grown-reach, grown-gap}
 use Rattle.verdicts.specs.Roots.{root-reaches}
@@ -106,10 +107,10 @@ module _ (r : ℤ) (c : Cell) (S : Strip) (P Q : Point) (i : In S P) (j : InCell
   -- ---- failed, where the strip is short
   module _ (T : ℤ) (sh : short T S ≡ true) where
     fitX : absℤ (S .x .axis) +ℤ S .x .box ≼ pos 16 *ℤ T
-    fitX = le-true (and-true (fits T (S .x)) (fits T (S .y)) sh .0)
+    fitX = le-true (both (fits T (S .x)) (fits T (S .y)) sh .0)
 
     fitY : absℤ (S .y .axis) +ℤ S .y .box ≼ pos 16 *ℤ T
-    fitY = le-true (and-true (fits T (S .x)) (fits T (S .y)) sh .1)
+    fitY = le-true (both (fits T (S .x)) (fits T (S .y)) sh .1)
 
     pub not-inside-means : pos 0 ≼ spill (c .s) T → isInside r c S ≡ false → (pos 2 *ℤ r ≺ pos 3 *ℤ spill (c .s) T) ⊎ AtLeast P Q (halfFine (pos 2 *ℤ r -ℤ pos 3 *ℤ spill (c .s) T))
     unfolding isInside

@@ -1,6 +1,5 @@
 -- Each number is within its size, so nothing wraps; a point's half side of 0 adds nothing to the box. Assumes nothing.
 use mathlib.Core.Path.{sym, ap, _∙_}
-use Prim.Native.Nat.{_+_}
 use native.Mathlib.Nat.{le-trans}
 use borrow.Author.Needs.{needs}
 use lib.IntN.{ℤ, _+ℤ_, _-ℤ_, +ℤ-idr}

@@ -1,8 +1,11 @@
-use mathlib.Core.Path.{_≡_, subst}
+use mathlib.Core.Path.{_≡_, _∙_, subst}
 use native.Mathlib.Nat.{mul-le-mul}
 use native.Mathlib.Omega.{arith}
 use lib.ListN.{length}
+use Rattle.model.specs.Jobs.{judge}
+use Rattle.model.specs.Plates.{columns}
 use Rattle.model.specs.Printing.{mapAnswered}
+use Rattle.ranges.specs.Refusals.{accepted-is}
 use Rattle.printing.specs.Puts.{Put}
 use Rattle.showing.proofs.Steps as steps
 use borrow.Author.Needs.{needs}
@@ -60,7 +63,7 @@ returns-2 c =
     let n = c .before .before .before .before .before .cells-a-side in
     let p = c .before .before .put-map in
     let z : m .result .refusal ≡ 0 = omega (arith, c .before .before .before .before .before .before .if1 .left) in
-    (subst (Put (s .args .out .now) (p .last .0) 0 (p .result)) (steps.drawn (s .args .job) _ _ (m .result) (m .ensures .0) _ (n .result) z (m .ensures .1 .1 .0) (n .ensures .0 (steps.judged (s .args .job) _ _ (m .result) (m .ensures .0) z))) (p .ensures .0), p .ensures .1)
+    (subst (Put (s .args .out .now) (p .last .0) 0 (p .result)) (steps.drawn (s .args .job) _ _ (m .result) (m .ensures .0) _ (n .result) z (m .ensures .1 .1 .0) (n .ensures .0 ∙ accepted-is (judge (s .args .job)) (columns (s .args .job)) 0 (steps.judged (s .args .job) _ _ (m .result) (m .ensures .0) z))) (p .ensures .0), p .ensures .1)
 
 pub put-answer-spec : {M : Type 1} → statement M
 put-answer-spec =

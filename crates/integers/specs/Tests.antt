@@ -1,0 +1,42 @@
+-- Tests that came out true or false, and what follows. Assumes nothing.
+use mathlib.Core.Path.{_≡_, refl, sym, subst}
+use mathlib.Core.Bool.{Bool, true, false, not, _&&_, _||_}
+use mathlib.Core.Logic.{_⊎_, inl, inr}
+use Prim.Native.Nat.{ℕ, _≤_}
+use lib.Dec.{T, leb, leb→le}
+use lib.IntN.{ℤ}
+use lib.Signed.{leZ, ltZ, leZ-yes, ltZ-yes, ltZ-no}
+use Rattle.integers.specs.Order.{_≼_, _≺_}
+
+-- ---- of booleans
+pub is-true : (b : Bool) → T b → b ≡ true
+is-true true t = refl
+is-true false t = absurd t
+
+pub both : (a b : Bool) → (a && b) ≡ true → (a ≡ true) × (b ≡ true)
+both true b e = (refl, e)
+both false b e = (e, cc)
+
+pub or-true : (a b : Bool) → (a || b) ≡ true → (a ≡ true) ⊎ (b ≡ true)
+or-true true b e = inl refl
+or-true false b e = inr e
+
+pub or-false : (a b : Bool) → (a || b) ≡ false → (a ≡ false) × (b ≡ false)
+or-false true b e = (e, cc)
+or-false false b e = (refl, e)
+
+-- ---- of numbers
+pub le-of : (m n : ℕ) → leb m n ≡ true → m ≤ n
+le-of m n e = leb→le m n (subst T (sym e) tt)
+
+pub lt-true : {a b : ℤ} → ltZ a b ≡ true → a ≺ b
+lt-true e = ltZ-yes (subst T (sym e) tt)
+
+pub lt-false : {a b : ℤ} → ltZ a b ≡ false → b ≼ a
+lt-false e = ltZ-no (subst (λ b. T (not b)) (sym e) tt)
+
+pub le-true : {a b : ℤ} → leZ a b ≡ true → a ≼ b
+le-true e = leZ-yes (subst T (sym e) tt)
+
+pub true-lt : {a b : ℤ} → a ≺ b → ltZ a b ≡ true
+true-lt {a} {b} h = is-true (ltZ a b) (h .lt)
