@@ -1,6 +1,6 @@
 -- Demand 3 of the map that an accepted call leaves, and the bounds of the point that an accepted call answers. Assumes nothing.
-use mathlib.Core.Path.{_≡_, refl, sym, _∙_, subst}
-use mathlib.Core.Bool.{Bool, true, false, not, cond, _&&_}
+use mathlib.Core.Path.{_≡_, sym, _∙_, subst}
+use mathlib.Core.Bool.{Bool, true, not, cond, _&&_}
 use mathlib.Core.List.{List}
 use Prim.Native.Nat.{ℕ, _+_, _*_, _<_}
 use native.Mathlib.Nat.{mul-le-mul-right}
@@ -18,14 +18,10 @@ use Rattle.model.specs.Plates.{letter, mapped, columns, cellsOf, mapOf}
 use Rattle.model.specs.Distance.{lo, hi}
 use Rattle.model.specs.Entries.{over, mapRefusal, map, mapCells, pointRefusal, IsNearest}
 use Rattle.model.specs.Promises.{MapHolds, Bounds, wholePoint}
-use Rattle.integers.specs.Tests.{both}
+use Rattle.integers.specs.Tests.{negated, both}
 use Rattle.ranges.specs.Refusals.{passed, accepted-is}
 use Rattle.verdicts.specs.DemandThree.{demand-three}
 use Rattle.verdicts.specs.PointBounds.{point-bounds}
-
-negated : (b : Bool) → not b ≡ true → b ≡ false
-negated false e = refl
-negated true e = sym e
 
 -- ---- what holds of the letters holds of them at the front of longer memory
 in-map : (n i k : ℕ) → i < n → k < n → k * n + i < n * n

@@ -7,13 +7,13 @@ use lib.Signed.{clashℤ}
 use Rattle.integers.specs.RingSolver.{name₂, reify}
 use Rattle.integers.specs.Order.{_≼_, _≺_, num, num⁺, _⊞_, _⊠_}
 use Rattle.integers.specs.Omega.{zarith}
-use Rattle.integers.specs.Inequalities.{from, _&_, weak, _⊠⁺_, ≼-*l-off}
+use Rattle.integers.specs.Inequalities.{from, weak, _⊠⁺_, ≼-*l-off}
 use Rattle.model.specs.Fractions.{Point, Farther}
 use Rattle.model.specs.Strips.{Strip}
 use Rattle.model.specs.Exact.{Points}
 use Rattle.model.specs.Trees.{Tree}
 use Rattle.model.specs.Explore.{Cell, Answer, inside, away, maybe, isInside, isAway₁, isAway₂, judge, verdict, join, settle, explore}
-use Rattle.integers.specs.Within.{Within}
+use Rattle.integers.specs.Within.{Within, bound-nonneg}
 use Rattle.enclosure.specs.Covers.{In, Covers, at-leaf, at-long, at-node}
 use Rattle.verdicts.specs.Answers.{clash, judge-inside, judge-away, settle-inside, settle-away, join-inside, join-away}
 use Rattle.verdicts.specs.Apart.{InCell}
@@ -22,9 +22,6 @@ use Rattle.verdicts.specs.Trees.{Sound, some, tree-inside, tree-away}
 use Rattle.inheritance.specs.Parts.{PartOf, inside-part, away₁-part, away₂-part}
 
 -- ---- a strip that has a point in it has a box that is not negative
-bound-nonneg : (x b : ℤ) → Within x b → pos 0 ≼ b
-bound-nonneg x b h = from (h .low & h .high) (name₂ x b λ σ p q. simp (p, q, reify, σ) (omega zarith))
-
 off : (k b : ℤ) → pos 0 ≺ k → pos 0 ≼ b *ℤ k → pos 0 ≼ b
 off k b hk h = ≼-*l-off hk (from h (name₂ k b λ σ p q. simp (p, q, reify, σ) (omega zarith)))
 

@@ -13,6 +13,10 @@ use Rattle.integers.specs.Inequalities.{≼-+}
 unfoldable pub absℤ : ℤ → ℤ
 absℤ z = pos (natAbs z)
 
+pub abs-size : (z : ℤ) → natAbs (absℤ z) ≡ natAbs z
+unfolding absℤ
+abs-size z = refl
+
 pub abs-nonneg : (z : ℤ) → pos 0 ≼ absℤ z
 unfolding absℤ
 abs-nonneg z = num (natAbs z)

@@ -2,12 +2,11 @@
 -- laws of the ring, and a solver for its identities
 pub mod RingLaws
 pub mod RingSolver
--- the order, and `omega` for what follows linearly
+-- the order, tests that came out true or false, and `omega` for what follows linearly
 pub mod Order
+pub mod Tests
 pub mod Omega
 pub mod Inequalities
--- tests that came out true or false
-pub mod Tests
 -- sizes: absolute values, numbers within a bound
 pub mod Absolute
 pub mod Within

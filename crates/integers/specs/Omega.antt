@@ -12,6 +12,7 @@ use lib.IntN.{ℤ, pos, negsuc, negℤ, _+ℤ_, _-ℤ_, _*ℤ_, +ℤ-idl, +ℤ-i
 use lib.Signed.{leZ-yes, ltZ-yes}
 use Rattle.integers.specs.RingSolver.{Env, later, _^ℤ_, pow-suc, mono-cons, name₂, Expr, _:-_, Term, term, terms, norm, mono, mono-nil, total, total-nil, total-cons, total-norm, val, val-is, name₅, reify, close, ok, diff-zero}
 use Rattle.integers.specs.Order.{_≼_, _≺_, num, sq, _⊠_, gap, gap⁺, le-by, lt-by}
+use Rattle.integers.specs.Tests.{T-both}
 
 abbrev pub posPart : ℤ → ℕ
 posPart (pos n) = n
@@ -67,11 +68,6 @@ even-pow x (suc (suc n)) t = subst (λ z. pos 0 ≼ z) (twice x (x ^ℤ n) ∙ a
   where
     twice : (x y : ℤ) → x *ℤ x *ℤ y ≡ x *ℤ y *ℤ x
     twice x y = name₂ x y λ σ p q. simp (p, q, reify) (close σ _ _ ok)
-
-T-both : (a b : Bool) → T (a && b) → T a × T b
-T-both true true t = (tt, tt)
-T-both true false t = absurd t
-T-both false b t = absurd t
 
 evens-mono : (σ : Env) (m : List ℕ) → T (evens m) → pos 0 ≼ mono σ m
 evens-mono σ [] t = subst (λ z. pos 0 ≼ z) (sym (mono-nil σ)) (num 1)

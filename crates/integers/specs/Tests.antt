@@ -13,6 +13,21 @@ pub is-true : (b : Bool) → T b → b ≡ true
 is-true true t = refl
 is-true false t = absurd t
 
+-- two tests that hold in the same cases are one
+pub alike : (a b : Bool) → (T a → T b) → (T b → T a) → a ≡ b
+alike true true f g = refl
+alike false false f g = refl
+alike true false f g = absurd (f tt)
+alike false true f g = absurd (g tt)
+
+pub T-both : (a b : Bool) → T (a && b) → T a × T b
+T-both true b t = (tt, t)
+T-both false b t = absurd t
+
+pub negated : (b : Bool) → not b ≡ true → b ≡ false
+negated false e = refl
+negated true e = sym e
+
 pub both : (a b : Bool) → (a && b) ≡ true → (a ≡ true) × (b ≡ true)
 both true b e = (refl, e)
 both false b e = (e, cc)

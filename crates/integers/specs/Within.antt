@@ -10,6 +10,10 @@ pub record Within (x b : ℤ) : Type 0 where
   pub low : negℤ b ≼ x
   pub high : x ≼ b
 
+-- a bound is not below 0
+pub bound-nonneg : (x b : ℤ) → Within x b → pos 0 ≼ b
+bound-nonneg x b h = from (h .low & h .high) (name₂ x b λ σ p q. simp (p, q, reify, σ) (omega zarith))
+
 -- an absolute value
 neg-low : (x b : ℤ) → negℤ x ≼ b → negℤ b ≼ x
 neg-low x b = name₂ x b λ σ p q. simp (p, q, reify) (omega zarith)

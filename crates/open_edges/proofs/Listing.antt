@@ -2,6 +2,7 @@
 use mathlib.Core.Path.{_≡_, refl, sym, ap, subst}
 use mathlib.Core.List.{List, [], _∷_, _++_}
 use Prim.Native.Nat.{ℕ, zero, suc, _+_, _*_, _<_}
+use native.Mathlib.Numerals.{add-one}
 use native.Mathlib.Omega.{arith}
 use lib.IntN.{ℤ, pos, natAbs}
 use lib.ListN.{length, getD, set, take, drop}
@@ -66,11 +67,8 @@ step store ts list a e l m h =
           (subst (λ ps. Starts store ps (take e ts ++ (x .tree ∷ []))) (sym (take-suc-set list e a m)) (starts-snoc (h .done) at)) in
           let b : Ahead store (a + width * n) (drop (suc e) ts) = subst (λ k. Ahead store (a + width * k) (drop (suc e) ts)) (sym i) (next-ahead store a (x .tree) (drop (suc e) ts) next) in
           let r : Listed store ts (set list e a) (a + width * n) (suc e) = record { done = d; ahead = b } in
-          subst (λ k. Listed store ts (set list e a) (a + width * n) k) (one-more e) r;
+          subst (λ k. Listed store ts (set list e a) (a + width * n) k) (sym (add-one e)) r;
     }
-  where
-    one-more : (e : ℕ) → suc e ≡ e + 1
-    one-more e = omega arith
 
 pub finish : (store : List ℤ) (ts : List Tree) (list : List ℕ) (a e : ℕ) → length ts ≡ e → Listed store ts list a e → Starts store (take e list) ts
 finish store ts list a e k h = subst (λ us. Starts store (take e list) us) (take-all e ts (omega arith)) (h .done)

@@ -1,11 +1,9 @@
 -- How large sums, products, absolute values and rounded quotients are. Assumes nothing.
-use mathlib.Core.Path.{_≡_, refl}
 use Prim.Native.Nat.{ℕ, _+_, _*_, _≤_, _<_}
 use native.Mathlib.Nat.{le-refl, le-trans, mul-le-mul, add-le-add, mul-comm, div-le-of-le-mul, div-lt-iff-lt-mul}
 use native.Mathlib.Omega.{arith}
 use lib.IntN.{ℤ, pos, negsuc, negℤ, natAbs, _+ℤ_, _-ℤ_, _*ℤ_}
 use lib.Signed.{shrZ}
-use Rattle.integers.specs.Absolute.{absℤ}
 use Rattle.integers.specs.Rounding.{nearest}
 use Rattle.integers.specs.Signed.{natAbs-add, natAbs-mul, natAbs-neg}
 
@@ -17,10 +15,6 @@ sub-in x y A B h k = le-trans (natAbs-add x (negℤ y)) (add-le-add h (rw natAbs
 
 pub mul-in : (x y : ℤ) (A B : ℕ) → natAbs x ≤ A → natAbs y ≤ B → natAbs (x *ℤ y) ≤ A * B
 mul-in x y A B h k = rw natAbs-mul (mul-le-mul h k)
-
-pub abs-size : (z : ℤ) → natAbs (absℤ z) ≡ natAbs z
-unfolding absℤ
-abs-size z = refl
 
 shr-in : (z : ℤ) (d B : ℕ) → 0 < d → natAbs z ≤ B * d → natAbs (shrZ z d) ≤ B
 shr-in (pos a) d B h k = div-le-of-le-mul d (rw (mul-comm d B) k)

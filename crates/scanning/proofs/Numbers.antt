@@ -3,7 +3,7 @@ use mathlib.Core.Path.{_≡_, refl, sym, ap, ap₂, _∙_, subst}
 use mathlib.Core.Bool.{Bool, true, false, not, cond, _&&_}
 use mathlib.Core.List.{List, [], _∷_}
 use Prim.Native.Nat.{ℕ, zero, suc, _+_, _-_, _*_, _^_, _≤_, _<_}
-use native.Mathlib.Nat.{pow-suc, lt-of-lt-of-le, pow-le-pow-right}
+use native.Mathlib.Nat.{pow-suc}
 use native.Mathlib.Numerals.{add-one}
 use native.Mathlib.Omega.{arith}
 use mir.Syntax.{w32, w64}
@@ -17,7 +17,7 @@ use borrow.Author.Tests.{eq-eqb, ne-eqb, eqb-false}
 use Rattle.model.specs.Bytes.{Got, got, none, digit}
 use Rattle.model.specs.Numbers.{moreDigits, natural, number}
 use Rattle.sheet_text.specs.Tests.{yes, no}
-use Rattle.sheet_text.specs.Numbers.{plus, minus, digit-is, is-digit, natural-was}
+use Rattle.sheet_text.specs.Numbers.{plus, minus, digit-is, is-digit, natural-was, seven-digits}
 use Rattle.scanning.specs.Answers.{byteOf, digitOf}
 
 -- what stands at i, and what stands after it
@@ -216,14 +216,11 @@ module _ (s : List ℕ) (w : Got ℕ) (i k v : ℕ) (inv : w ≡ moreDigits (6 -
       ∙ ap₂ (λ f u. moreDigits (6 - (k + 1)) (v * 10 + f) u) (sym e) (drop-next s i)
 
 -- seven digits
-pub below : (k v : ℕ) → k ≤ 6 → v < 10 ^ suc k → v < 10000000
-below k v h l = lt-of-lt-of-le l (pow-le-pow-right {n = 10} (lit< tt) {i = suc k} {j = 7} (omega arith))
-
 pub mul-fits : (k v : ℕ) → v < 10 ^ suc k → k < 6 → Fits w32 (v * 10)
-mul-fits k v l h = omega (arith, below k v (omega arith) l)
+mul-fits k v l h = omega (arith, seven-digits k v (omega arith) l)
 
 pub add-fits : (k v d : ℕ) → v < 10 ^ suc k → k < 6 → d < 10 → Fits w32 (v * 10 + d)
-add-fits k v d l h m = omega (arith, below k v (omega arith) l)
+add-fits k v d l h m = omega (arith, seven-digits k v (omega arith) l)
 
 pub ten-times : (k v d : ℕ) → v < 10 ^ suc k → d < 10 → v * 10 + d < 10 ^ suc (k + 1)
 ten-times k v d h l = rw (add-one k) (let p = pow-suc 10 (suc k) in omega arith)

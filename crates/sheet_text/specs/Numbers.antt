@@ -165,8 +165,8 @@ more-was (suc k) f a (d ∷ s) v rest h l e = was-more (digit d) k f a d s v res
 abbrev pub Wrote : List ℕ → ℕ → List ℕ → Type 0
 Wrote s v rest = (1 ≤ v) × (v < 10000000) × (s ≡ decimal 7 v ++ rest)
 
-up : (g v : ℕ) → g ≤ 6 → v < 10 ^ suc g → v < 10000000
-up g v h l = lt-of-lt-of-le l (pow-le-pow-right {n = 10} (lit< tt) {i = suc g} {j = 7} (omega arith))
+pub seven-digits : (g v : ℕ) → g ≤ 6 → v < 10 ^ suc g → v < 10000000
+seven-digits g v h l = lt-of-lt-of-le l (pow-le-pow-right {n = 10} (lit< tt) {i = suc g} {j = 7} (omega arith))
 
 not-equal : (d e : ℕ) → not (eqb d e) ≡ true → d ≡ e → ⊥
 not-equal d e h = eqb-false d e (go (eqb d e) h)
@@ -183,7 +183,7 @@ first-was true d s v rest p e =
     let n = not-equal d 48 (b .1) in
     let r = more-was 6 0 (d - 48) s v rest (omega arith) (omega arith) e in (
       omega arith,
-      up (r .0) v (omega arith) (r .3),
+      seven-digits (r .0) v (omega arith) (r .3),
       ap (λ u. u ∷ s) (let z : d ≡ 48 + (d - 48) = omega arith in z)
           ∙ ap (λ u. u ++ s) (sym (decimal-one 0 (d - 48) (omega arith)))
           ∙ r .5 ∙ ap (λ u. u ++ rest) (wider (r .0) 6 v (r .3) (omega arith)),

@@ -6,29 +6,16 @@ use mathlib.Core.Logic.{_⊎_, inl, inr}
 use mathlib.Core.List.{List, [], _∷_, append-nil}
 use Prim.Native.Nat.{ℕ, _≤_}
 use native.Mathlib.Omega.{arith}
-use lib.IntN.{ℤ, pos, negsuc}
+use lib.IntN.{ℤ}
 use lib.ListN.{length, getD}
-use borrow.Author.Tests.{eqb-true, eq-eqb}
 use Rattle.model.specs.Forms.{writeForm}
 use Rattle.model.specs.Layouts.{Lines, writeLines}
 use Rattle.model.specs.Sheets.{same, stated, joined}
-use Rattle.sheet_text.specs.Tests.{no-way, yes, no}
+use Rattle.ranges.specs.Equal.{same-is, same-self}
+use Rattle.sheet_text.specs.Tests.{yes, no}
 use Rattle.sheet_text.specs.Numbers.{Small}
 use Rattle.sheet_text.specs.Forms.{marks, weight, nil-small, cons-small, form-long}
 use Rattle.sheet_text.specs.Layouts.{AllLines}
-
--- ---- equal numbers
-pub same-is : (v d : ℤ) → same v d ≡ true → v ≡ d
-unfolding same
-same-is (pos m) (pos n) h = ap pos (eqb-true m n h)
-same-is (pos m) (negsuc n) h = no-way h
-same-is (negsuc m) (pos n) h = no-way h
-same-is (negsuc m) (negsuc n) h = ap negsuc (eqb-true m n h)
-
-pub same-itself : (d : ℤ) → same d d ≡ true
-unfolding same
-same-itself (pos n) = eq-eqb n n refl
-same-itself (negsuc n) = eq-eqb n n refl
 
 pub same-not : (v d : ℤ) → (v ≡ d → ⊥) → same v d ≡ false
 same-not v d h = go (same v d) refl
@@ -40,7 +27,7 @@ same-not v d h = go (same v d) refl
 -- ---- the line is there, or it is not
 pub stated-out : (d v : ℤ) → v ≡ d → stated d v ≡ []
 unfolding stated
-stated-out d v h = yes (same v d) _ _ (ap (λ u. same u d) h ∙ same-itself d)
+stated-out d v h = yes (same v d) _ _ (ap (λ u. same u d) h ∙ same-self d)
 
 pub stated-in : (d v : ℤ) → (v ≡ d → ⊥) → stated d v ≡ (v ∷ []) ∷ []
 unfolding stated

@@ -10,14 +10,10 @@ use lib.Signed.{ltZ, nonNeg}
 use mir.Syntax.{w64}
 use mir.Val.{toZ, ofZ}
 use Rattle.integers.specs.Signed.{Made, called, back, natAbs-add, natAbs-neg}
-use Rattle.integers.specs.Absolute.{absℤ}
+use Rattle.integers.specs.Absolute.{absℤ, abs-size}
 use Rattle.model.specs.Explore.{squares}
 use Rattle.strip_tests.specs.Limits.{NodeSized, SpanSized}
 use Rattle.strip_tests.specs.PlainTests.{excessBy, mostBy}
-
-abs-size : (x : ℤ) → natAbs (absℤ x) ≡ natAbs x
-unfolding absℤ
-abs-size x = refl
 
 pub abs-of : {u x v : ℤ} {B : ℕ} → Made u x B → v ≡ absℤ (toZ w64 (ofZ w64 u)) → T (ltb B (2 ^ 63)) → Made v (absℤ x) B
 abs-of {u} {x} {v} {B} m e t = called (e ∙ ap absℤ (back m)) (rw (abs-size x) (m .within)) t

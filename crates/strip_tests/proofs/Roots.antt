@@ -6,9 +6,10 @@ use native.Mathlib.Nat.{le-trans, mul-le-mul, le-refl, div-add-mod', mod-lt}
 use native.Mathlib.Decide.{decLe}
 use native.Mathlib.Omega.{arith}
 use borrow.Author.Tests.{ltb-true, ltb-false, le-ltb}
-use lib.Dec.{T, ltb, leb, leb→le, le→leb, ltb→lt, lt→ltb}
+use lib.Dec.{ltb, leb, leb→le, le→leb, ltb→lt, lt→ltb}
 use lib.IntN.{ℤ, pos, negsuc, natAbs, _-ℤ_, _*ℤ_}
 use lib.Signed.{ltZ, leZ, quotZ}
+use Rattle.integers.specs.Tests.{alike}
 use Rattle.strip_tests.specs.PlainTests.{capBy}
 use Rattle.verdicts.specs.Answers.{clash}
 use Rattle.model.specs.Roots.{root}
@@ -41,14 +42,8 @@ capped-down j = go (ltb j 1073741824) refl
     go true e = le-refl j
     go false e = ltb-false j 1073741824 e
 
-same : (a b : Bool) → (T a → T b) → (T b → T a) → a ≡ b
-same true true f g = refl
-same false false f g = refl
-same true false f g = absurd (f tt)
-same false true f g = absurd (g tt)
-
 pub beyond-law : (n d m : ℕ) → 0 < d → m ≤ 1152921504606846976 → leb m (capped (n / d) * capped (n / d)) ≡ ltb (d * root m) (suc n)
-beyond-law n d m hd hm = same (leb m (k * k)) (ltb (d * root m) (suc n))
+beyond-law n d m hd hm = alike (leb m (k * k)) (ltb (d * root m) (suc n))
     (λ t. lt→ltb (d * root m) (suc n) (quotient-down n d (root m) (le-trans (root-least m k (leb→le m (k * k) t)) (capped-down j))))
     (λ t. le→leb m (k * k) (le-trans (root-reaches m) (square (capped-up (root m) j (root-least m 1073741824 hm) (quotient-up n d (root m) hd (ltb→lt (d * root m) (suc n) t))))))
   where

@@ -3,27 +3,15 @@ use mathlib.Core.Path.{_≡_, refl, sym, ap, ap₂, _∙_, subst}
 use mathlib.Core.Bool.{true}
 use mathlib.Core.List.{List, [], _∷_, _++_}
 use Prim.Native.Nat.{ℕ, _*_}
-use borrow.Author.Tests.{eqb-true, eq-eqb}
 use lib.Dec.{T}
-use lib.IntN.{ℤ, pos, negsuc}
+use lib.IntN.{ℤ}
 use lib.ListN.{length, drop}
 use Rattle.integers.specs.Tests.{both}
 use Rattle.model.specs.Sheets.{same}
 use Rattle.model.specs.Trees.{Tree}
 use Rattle.model.specs.Store.{width, sizes, flattenAll, begins}
+use Rattle.ranges.specs.Equal.{same-is, same-self}
 use Rattle.subtrees.specs.Preorder.{BeginsAll, length-all}
-
-same-is : (y z : ℤ) → same y z ≡ true → y ≡ z
-unfolding same
-same-is (pos m) (pos n) e = ap pos (eqb-true m n e)
-same-is (pos m) (negsuc n) e = absurd (subst T (sym e) tt)
-same-is (negsuc m) (pos n) e = absurd (subst T (sym e) tt)
-same-is (negsuc m) (negsuc n) e = ap negsuc (eqb-true m n e)
-
-same-self : (z : ℤ) → same z z ≡ true
-unfolding same
-same-self (pos n) = eq-eqb n n refl
-same-self (negsuc n) = eq-eqb n n refl
 
 begins-is : (s ns : List ℤ) → begins s ns ≡ true → s ≡ ns ++ drop (length ns) s
 unfolding begins

@@ -8,7 +8,7 @@ use Rattle.integers.specs.Order.{_≼_, _≺_, num, _⊞_, _⊠_, sq, gap, gap�
 use Rattle.integers.specs.Omega.{zarith}
 use Rattle.integers.specs.Inequalities.{from, _&_, weak, _⊠⁺_, ≼-trans, ≼-*l-off, sq-≼, by-contra, split≼}
 use Rattle.integers.specs.Absolute.{absℤ, abs-is, abs-sq, ≼-abs, neg≼-abs}
-use Rattle.integers.specs.Within.{Within, own-abs, times, cancel}
+use Rattle.integers.specs.Within.{Within, own-abs, times, cancel, bound-nonneg}
 use Rattle.verdicts.specs.Apart.{Spread}
 
 -- ---- one coordinate
@@ -155,9 +155,6 @@ band-upper x y D K H r u hr hu h k l =
     (name₇ x y D K H r u λ σ p₁ p₂ p₃ p₄ p₅ p₆ p₇. simp (p₁, p₂, p₃, p₄, p₅, p₆, p₇, reify, σ) (omega zarith))
 
 -- lower half: K D ≤ 16 a + u D, where a is |x|, so (K D)² ≤ (16 a + u D)²; likewise H and y; r² ≤ K² + H²
-nonneg-of : (X k : ℤ) → Within X k → pos 0 ≼ k
-nonneg-of X k h = from (h .low & h .high) (name₂ X k λ σ p q. simp (p, q, reify, σ) (omega zarith))
-
 square-≼ : (k m : ℤ) → pos 0 ≼ k → k ≼ m → k ^ℤ 2 ≼ m ^ℤ 2
 square-≼ k m hk h = from (gap h ⊠ gap h & hk ⊠ gap h) (name₂ k m λ σ p q. simp (p, q, reify, σ) (omega zarith))
 
@@ -173,7 +170,7 @@ lower′ a b D K H r u hD hu nK nH h k l m = by-contra
 
 pub band-lower : (x y D K H r u : ℤ) → pos 0 ≺ D → pos 0 ≼ u → Within (pos 16 *ℤ x) (K *ℤ D) → Within (pos 16 *ℤ y) (H *ℤ D) → K *ℤ D ≼ pos 16 *ℤ absℤ x +ℤ u *ℤ D → H *ℤ D ≼ pos 16 *ℤ absℤ y +ℤ u *ℤ D → r *ℤ r ≼ K *ℤ K +ℤ H *ℤ H → pos 3 *ℤ u ≼ pos 2 *ℤ r → (pos 2 *ℤ r -ℤ pos 3 *ℤ u) ^ℤ 2 *ℤ D ^ℤ 2 ≼ x ^ℤ 2 *ℤ pos 32 ^ℤ 2 +ℤ y ^ℤ 2 *ℤ pos 32 ^ℤ 2
 band-lower x y D K H r u hD hu wx wy h k l m =
-    rw (← (abs-sq x), ← (abs-sq y)) (lower′ (absℤ x) (absℤ y) D K H r u hD hu (nonneg-of (pos 16 *ℤ x) (K *ℤ D) wx) (nonneg-of (pos 16 *ℤ y) (H *ℤ D) wy) h k l m)
+    rw (← (abs-sq x), ← (abs-sq y)) (lower′ (absℤ x) (absℤ y) D K H r u hD hu (bound-nonneg (pos 16 *ℤ x) (K *ℤ D) wx) (bound-nonneg (pos 16 *ℤ y) (H *ℤ D) wy) h k l m)
 
 -- a short strip: |p| + box ≤ 16 T. Then |w| + |p| + A is over |w| − |p| − A by u = 2 s + 32 T at most
 pub grown-reach : (a b box s T D z : ℤ) → pos 0 ≼ D → b +ℤ box ≼ pos 16 *ℤ T → (a -ℤ b -ℤ (box +ℤ s)) *ℤ D ≼ z → (a +ℤ b +ℤ (box +ℤ s)) *ℤ D ≼ z +ℤ (pos 2 *ℤ s +ℤ pos 32 *ℤ T) *ℤ D

@@ -5,11 +5,10 @@ use borrow.Author.Needs.{needs}
 use lib.IntN.{ℤ, _+ℤ_, _-ℤ_, +ℤ-idr}
 use mir.Syntax.{w64}
 use mir.Val.{toZ, ofZ}
-use Rattle.integers.specs.Absolute.{absℤ}
+use Rattle.integers.specs.Absolute.{absℤ, abs-size}
 use Rattle.integers.specs.Signed.{Made, arg, plus, minus, back, called, sized}
 use Rattle.model.specs.Strips.{Side}
 use Rattle.model.specs.Explore.{atLeast0}
-use Rattle.ranges.specs.Bounds.{abs-size}
 use Rattle.subtrees.specs.Halves.{sideIn}
 use Rattle.boxes.proofs.Clamps.{clamp-size}
 use Rattle.boxes.proofs.range_of.Statement.{statement}

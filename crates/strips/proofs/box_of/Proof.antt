@@ -5,8 +5,7 @@ use Prim.Native.Nat.{ℕ, _^_}
 use lib.Dec.{T, ltb}
 use mir.Syntax.{w64}
 use mir.Val.{toZ, ofZ}
-use Rattle.integers.specs.Absolute.{absℤ}
-use Rattle.ranges.specs.Bounds.{abs-size}
+use Rattle.integers.specs.Absolute.{absℤ, abs-size}
 use lib.IntN.{ℤ, pos, natAbs, _*ℤ_}
 use Rattle.integers.specs.Rounding.{nearest}
 use Rattle.integers.specs.Signed.{Made, held, lit, widen, plus, times, back, called, sized}

@@ -1,8 +1,7 @@
 -- Nothing wraps, and the test is the model's. Assumes nothing.
 use mathlib.Core.Path.{ap, _∙_}
 use mir.Facts.{toZ-ofZ}
-use Rattle.integers.specs.Absolute.{absℤ}
-use Rattle.ranges.specs.Bounds.{abs-size}
+use Rattle.integers.specs.Absolute.{absℤ, abs-size}
 use Rattle.integers.specs.Signed.{Made, held, plus, back, called, sized}
 use Rattle.strips.proofs.fits.Statement.{statement}
 use Rattle.strips.proofs.fits.Tie as tie
