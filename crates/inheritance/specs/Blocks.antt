@@ -3,7 +3,7 @@ use mathlib.Core.Path.{_≡_}
 use Prim.Native.Nat.{ℕ, _+_, _*_, _^_, _≤_, _<_}
 use native.Mathlib.Omega.{arith}
 use lib.IntN.{ℤ, pos, _+ℤ_, _-ℤ_, _*ℤ_}
-use Rattle.integers.specs.RingSolver.{name₃, name₄, name₅, reify, close, ok}
+use Rattle.integers.specs.RingSolver.{name₃, name₅, reify, close, ok}
 use Rattle.integers.specs.Order.{_≼_, pos-≼, _⊠_, gap}
 use Rattle.integers.specs.Omega.{zarith}
 use Rattle.integers.specs.Inequalities.{from}
@@ -43,19 +43,6 @@ one q h = from h (name₃ q q q λ σ p r s. simp (p, reify, σ) (omega zarith))
 
 pub block-part : (X Y q : ℤ) (c r w i j : ℕ) → pos 0 ≼ q → c ≤ i → i < c + w → r ≤ j → j < r + w → PartOf (block X Y q i j 1) (block X Y q c r w)
 block-part X Y q c r w i j hq h k l m = record { half = one q hq; alongX = side X q c w i hq h k; alongY = side Y q r w j hq l m }
-
--- ---- the middles of the halves, from the middle of the whole
-first′ : (X q C H : ℤ) → X +ℤ (pos 2 *ℤ C +ℤ H) *ℤ q ≡ X +ℤ (pos 2 *ℤ C +ℤ pos 2 *ℤ H) *ℤ q -ℤ H *ℤ q
-first′ X q C H = name₄ X q C H λ σ p₁ p₂ p₃ p₄. simp (p₁, p₂, p₃, p₄, reify, σ) (close σ _ _ ok)
-
-second′ : (X q C H : ℤ) → X +ℤ (pos 2 *ℤ (C +ℤ H) +ℤ H) *ℤ q ≡ X +ℤ (pos 2 *ℤ C +ℤ pos 2 *ℤ H) *ℤ q +ℤ H *ℤ q
-second′ X q C H = name₄ X q C H λ σ p₁ p₂ p₃ p₄. simp (p₁, p₂, p₃, p₄, reify, σ) (close σ _ _ ok)
-
-pub first-half : (X q : ℤ) (c h : ℕ) → middle X q c h ≡ middle X q c (2 * h) -ℤ pos h *ℤ q
-first-half X q c h = first′ X q (pos c) (pos h)
-
-pub second-half : (X q : ℤ) (c h : ℕ) → middle X q (c + h) h ≡ middle X q c (2 * h) +ℤ pos h *ℤ q
-second-half X q c h = second′ X q (pos c) (pos h)
 
 -- ---- the map's smallest cells are blocks of one, from the corner in fine units
 unit : (X W I : ℤ) → pos 16 *ℤ (X +ℤ I *ℤ W) +ℤ pos 8 *ℤ W ≡ pos 16 *ℤ X +ℤ (pos 2 *ℤ I +ℤ pos 1) *ℤ (pos 8 *ℤ W)

@@ -1,5 +1,6 @@
 -- Edges: the answers of a list of trees are inherited, and a tree that is away for a cell may be left out for its parts. Assumes nothing.
 use mathlib.Core.Path.{_≡_, refl, sym, _∙_, ap}
+use mathlib.Core.Bool.{Bool}
 use mathlib.Core.List.{List, [], _∷_}
 use mathlib.Core.Logic.{⊎-elim}
 use lib.IntN.{ℤ, pos}
@@ -11,7 +12,7 @@ use Rattle.model.specs.Plates.{Verdict, doubtful, settled}
 use Rattle.model.specs.Explore.{Cell, Answer, inside, away, maybe, verdict, join, explore, exploreAll}
 use Rattle.enclosure.specs.Covers.{CoversAll, at-end, at-cons}
 use Rattle.verdicts.specs.Answers.{clash, join-inside, join-away}
-use Rattle.inheritance.specs.Parts.{PartOf}
+use Rattle.inheritance.specs.Parts.{PartOf, whole, quarterOf, quarter-part}
 use Rattle.inheritance.specs.Trees.{tree-inside-part, tree-away-part, left-inside, right-inside, both-away}
 
 -- what a tree is known to have where it covers something: parts of a cell inherit its answers, for the reach r
@@ -28,6 +29,14 @@ covered-inherits r hr (at-end z) = tt
 covered-inherits r hr (at-cons A B c f g p q) =
     let rest = covered-inherits r hr q in
     (record { inside-too = λ c d w. tree-inside-part r hr c d w p; away-too = λ c d w. tree-away-part r hr c d w p }, rest)
+
+-- the quarters of a cell among them
+module _ {r : ℤ} {t : Tree} (i : Inherits r t) (right upper : Bool) (x y h : ℤ) (hh : pos 0 ≼ h) where
+  pub quarter-inside : explore (verdict r (whole x y h)) t ≡ inside → explore (verdict r (quarterOf right upper x y h)) t ≡ inside
+  quarter-inside e = i .inside-too (whole x y h) (quarterOf right upper x y h) (quarter-part right upper x y h hh) e
+
+  pub quarter-away : explore (verdict r (whole x y h)) t ≡ away → explore (verdict r (quarterOf right upper x y h)) t ≡ away
+  quarter-away e = i .away-too (whole x y h) (quarterOf right upper x y h) (quarter-part right upper x y h hh) e
 
 -- the trees that are not away
 abbrev pub keep : Answer → Tree → List Tree → List Tree

@@ -2,7 +2,7 @@
 use mathlib.Core.Path.{_≡_, ap, _∙_, subst}
 use mathlib.Core.Bool.{Bool, true, false}
 use lib.IntN.{ℤ, pos, negsuc, negℤ, _+ℤ_, _-ℤ_, _*ℤ_, natAbs}
-use Rattle.integers.specs.RingSolver.{name₂, name₃, name₆, name₈, name₁₀, name₁₂, reify}
+use Rattle.integers.specs.RingSolver.{name₂, name₃, name₈, name₁₀, name₁₂, reify}
 use Rattle.integers.specs.Order.{_≼_, _≺_, _⊞_, _⊠_, gap}
 use Rattle.integers.specs.Omega.{zarith}
 use Rattle.integers.specs.Inequalities.{from, _&_, ≼-trans, ≼-≺-trans, ≺-≼-trans, ≼-*, ≼-+}
@@ -128,16 +128,11 @@ quarter-side : (b : Bool) (x h : ℤ) → pos 0 ≼ h → absℤ (quarter b x h 
 quarter-side true x h hh = offset h (x +ℤ h -ℤ x) hh (from hh (name₂ x h λ σ p q. simp (p, q, reify, σ) (omega zarith))) (from hh (name₂ x h λ σ p q. simp (p, q, reify, σ) (omega zarith)))
 quarter-side false x h hh = offset h (x -ℤ h -ℤ x) hh (from hh (name₂ x h λ σ p q. simp (p, q, reify, σ) (omega zarith))) (from hh (name₂ x h λ σ p q. simp (p, q, reify, σ) (omega zarith)))
 
-pub quarter-part : (right upper : Bool) (x y h : ℤ) → pos 0 ≼ h → PartOf (record { cx = quarter right x h; cy = quarter upper y h; s = h }) (record { cx = x; cy = y; s = pos 2 *ℤ h })
+abbrev pub whole : ℤ → ℤ → ℤ → Cell
+whole x y h = record { cx = x; cy = y; s = pos 2 *ℤ h }
+
+abbrev pub quarterOf : Bool → Bool → ℤ → ℤ → ℤ → Cell
+quarterOf right upper x y h = record { cx = quarter right x h; cy = quarter upper y h; s = h }
+
+pub quarter-part : (right upper : Bool) (x y h : ℤ) → pos 0 ≼ h → PartOf (quarterOf right upper x y h) (whole x y h)
 quarter-part right upper x y h hh = record { half = hh; alongX = quarter-side right x h hh; alongY = quarter-side upper y h hh }
-
--- a part of a part
-within-both : (a b e s t u : ℤ) → e ≼ a +ℤ b → a +ℤ t ≼ s → b +ℤ u ≼ t → e +ℤ u ≼ s
-within-both a b e s t u = name₆ a b e s t u λ σ p₁ p₂ p₃ p₄ p₅ p₆. simp (p₁, p₂, p₃, p₄, p₅, p₆, reify, σ) (omega zarith)
-
-pub part-part : {c d e : Cell} → PartOf d c → PartOf e d → PartOf e c
-part-part {c} {d} {e} p q = record {
-  half = q .half;
-  alongX = within-both (absℤ (d .cx -ℤ c .cx)) (absℤ (e .cx -ℤ d .cx)) (absℤ (e .cx -ℤ c .cx)) (c .s) (d .s) (e .s) (near (d .cx) (e .cx) (c .cx)) (p .alongX) (q .alongX);
-  alongY = within-both (absℤ (d .cy -ℤ c .cy)) (absℤ (e .cy -ℤ d .cy)) (absℤ (e .cy -ℤ c .cy)) (c .s) (d .s) (e .s) (near (d .cy) (e .cy) (c .cy)) (p .alongY) (q .alongY);
-}

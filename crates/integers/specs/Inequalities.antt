@@ -8,7 +8,7 @@ use lib.Dec.{T}
 use lib.IntN.{ℤ, pos, _+ℤ_, _*ℤ_}
 use lib.Signed.{ltZ, ltZ-yes, ltZ-no, clashℤ}
 use Rattle.integers.specs.RingSolver.{name₂, name₃, name₄, reify, close, ok}
-use Rattle.integers.specs.Order.{_≼_, _≺_, num⁺, nat⁺, _⊠_, gap, gap⁺, le-by, lt-by}
+use Rattle.integers.specs.Order.{_≼_, _≺_, num⁺, nat⁺, _⊠_, gap, gap⁺, lt-by}
 use Rattle.integers.specs.Omega.{zarith}
 
 -- facts, and what follows from them: `from (h & k) (name₂ x y λ σ p q. simp (p, q, reify, σ) (omega zarith))`
@@ -47,9 +47,6 @@ split≼ a b = go (ltZ b a) (λ t. inr (ltZ-yes t)) (λ t. inl (ltZ-no t))
 pub by-contra : {a b : ℤ} → (b ≺ a → ⊥) → a ≼ b
 by-contra {a} {b} f = ⊎-elim (λ h. h) (λ h. absurd (f h)) (split≼ a b)
 
-pub by-contra⁺ : {a b : ℤ} → (b ≼ a → ⊥) → a ≺ b
-by-contra⁺ {a} {b} f = ⊎-elim (λ h. absurd (f h)) (λ h. h) (split≼ b a)
-
 -- ---- sums and products of what is positive
 infixl 6 _⊞⁺_
 pub _⊞⁺_ : {a b : ℤ} → pos 0 ≺ a → pos 0 ≼ b → pos 0 ≺ a +ℤ b
@@ -65,9 +62,6 @@ _⊠⁺_ {a} {b} h k =
     go : (n : ℕ) → 0 < n → pos 0 ≺ pos n
     go zero h = absurd (omega arith)
     go (suc n) h = num⁺ n
-
-pub ≼-*l : {a b c : ℤ} → pos 0 ≼ c → a ≼ b → c *ℤ a ≼ c *ℤ b
-≼-*l {a} {b} {c} h k = le-by (h ⊠ gap k) (name₃ a b c λ σ p q r. simp (p, q, r, reify) (close σ _ _ ok))
 
 pub ≺-*l : {a b c : ℤ} → pos 0 ≺ c → a ≺ b → c *ℤ a ≺ c *ℤ b
 ≺-*l {a} {b} {c} h k = lt-by (h ⊠⁺ gap⁺ k) (name₃ a b c λ σ p q r. simp (p, q, r, reify) (close σ _ _ ok))

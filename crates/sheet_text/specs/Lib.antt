@@ -9,5 +9,3 @@ pub mod Jobs
 pub mod Places
 pub mod Code
 pub mod RoundTrips
--- an example of an extension
-pub mod Later

@@ -1,12 +1,12 @@
 -- What a job that is judged 0 is known to have: each number in its range, as facts that proofs use. Assumes nothing.
 use mathlib.Core.Path.{_≡_}
 use mathlib.Core.Bool.{true}
-use Prim.Native.Nat.{_*_, _≤_}
+use Prim.Native.Nat.{_≤_}
 use lib.IntN.{ℤ, pos, negsuc, _-ℤ_}
 use lib.Signed.{leZ}
 use Rattle.integers.specs.Order.{_≼_}
 use Rattle.model.specs.declared.Job.{Job}
-use Rattle.model.specs.Jobs.{between, coordinate, judge, placed}
+use Rattle.model.specs.Jobs.{between, coordinate, judge}
 use Rattle.ranges.specs.Legal as limits
 use Rattle.integers.specs.Tests.{le-true, both}
 
@@ -34,7 +34,6 @@ pub record Legal (j : Job) : Type 0 where
   pub cell : Between (pos 0) (pos 20) (j .m)
   pub reach-in : Between (pos 1) (pos 1000000) (j .reach)
   pub grain-in : Between (pos 1) (pos 100000) (j .grain)
-  pub controls : placed (8 * j .count) (j .places) ≡ true
   pub within-plate : j .m ≼ j .n
   pub few : j .n -ℤ j .m ≼ pos 8
 
@@ -51,7 +50,6 @@ legal j e =
       cell = between-true (r .m-in);
       reach-in = between-true (r .reach-in);
       grain-in = between-true (r .grain-in);
-      controls = r .places-in;
       within-plate = le-true (l .cell-fits);
       few = le-true (l .few-cells);
     }
