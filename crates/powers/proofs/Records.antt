@@ -1,7 +1,29 @@
--- Power forms that are equal coefficient by coefficient. Assumes nothing.
+-- Power forms that are equal coefficient by coefficient, and the numbers that a0, a1 and a2 are made of, with their bounds. Assumes nothing.
 use mathlib.Core.Path.{_≡_}
-use lib.IntN.{ℤ}
-use Rattle.ranges.specs.PowerForm.{Form}
+use Prim.Native.Nat.{_≤_}
+use lib.IntN.{ℤ, natAbs}
+use mir.Syntax.{w64}
+use mir.Val.{SFits}
+use Rattle.integers.specs.Signed.{Made, arg, held}
+use Rattle.ranges.specs.PowerForm.{Form, FormSized}
 
 pub form-eq : {a b c d p q r s : ℤ} → a ≡ p → b ≡ q → c ≡ r → d ≡ s → _≡_ {A = Form} (record { c0 = a; c1 = b; c2 = c; c3 = d }) (record { c0 = p; c1 = q; c2 = r; c3 = s })
 form-eq e f g h = cc
+
+pub record Given (f : Form) (N M : ℤ) : Type 0 where
+  pub c0 : Made (f .c0) (f .c0) 1000000
+  pub c1 : Made (f .c1) (f .c1) 6000000
+  pub c2 : Made (f .c2) (f .c2) 12000000
+  pub c3 : Made (f .c3) (f .c3) 8000000
+  pub n : Made N N 2048
+  pub m : Made M M 2048
+
+pub given : (f : Form) (N M : ℤ) → FormSized f → natAbs N ≤ 2048 → natAbs M ≤ 2048 → SFits w64 N → SFits w64 M → Given f N M
+given f N M s n m fn fm = record {
+  c0 = held (f .c0) (s .c0-size) tt;
+  c1 = held (f .c1) (s .c1-size) tt;
+  c2 = held (f .c2) (s .c2-size) tt;
+  c3 = held (f .c3) (s .c3-size) tt;
+  n = arg n fn;
+  m = arg m fm;
+}

@@ -8,8 +8,8 @@ use lib.Dec.{T, ltb}
 use lib.IntN.{ℤ, pos, negsuc, negℤ, natAbs, _+ℤ_, _-ℤ_}
 use lib.Signed.{ltZ, nonNeg}
 use mir.Syntax.{w64}
-use mir.Val.{toZ, ofZ}
-use Rattle.integers.specs.Signed.{Made, called, back, natAbs-add, natAbs-neg}
+use mir.Val.{SFits, toZ, ofZ}
+use Rattle.integers.specs.Signed.{Made, arg, called, back, natAbs-add, natAbs-neg}
 use Rattle.integers.specs.Absolute.{absℤ, abs-size}
 use Rattle.model.specs.Explore.{squares}
 use Rattle.strip_tests.specs.Limits.{NodeSized, SpanSized}
@@ -63,3 +63,40 @@ unfolding absℤ
 low p q =
     let h = low′ (natAbs p) (natAbs q) (ltb (natAbs p) (natAbs q)) in
     record { is-nonneg = h .0; is-low = rw (squares-is p q) (h .1) }
+
+-- ---- the arguments of the tests, with their bounds
+pub record SpanMade (ax ay ex ey r : ℤ) : Type 0 where
+  pub ax-made : Made ax ax 1073741824
+  pub ay-made : Made ay ay 1073741824
+  pub ex-made : Made ex ex 805306368
+  pub ey-made : Made ey ey 805306368
+  pub r-made : Made r r 16777216
+
+pub span-made : {ax ay ex ey r : ℤ} → SpanSized ax ay ex ey r → SFits w64 ax → SFits w64 ay → SFits w64 ex → SFits w64 ey → SFits w64 r → SpanMade ax ay ex ey r
+span-made s fax fay fex fey fr = record {
+  ax-made = arg (s .ax-size) fax;
+  ay-made = arg (s .ay-size) fay;
+  ex-made = arg (s .ex-size) fex;
+  ey-made = arg (s .ey-size) fey;
+  r-made = arg (s .span-reach) fr;
+}
+
+pub record NodeMade (wx wy p q a b r : ℤ) : Type 0 where
+  pub wx-made : Made wx wx 1073741824
+  pub wy-made : Made wy wy 1073741824
+  pub p-made : Made p p 536870912
+  pub q-made : Made q q 536870912
+  pub a-made : Made a a 268435456
+  pub b-made : Made b b 268435456
+  pub r-made : Made r r 16777216
+
+pub node-made : {wx wy p q a b r : ℤ} → NodeSized wx wy p q a b r → SFits w64 wx → SFits w64 wy → SFits w64 p → SFits w64 q → SFits w64 a → SFits w64 b → SFits w64 r → NodeMade wx wy p q a b r
+node-made s fwx fwy fp fq fa fb fr = record {
+  wx-made = arg (s .wx-size) fwx;
+  wy-made = arg (s .wy-size) fwy;
+  p-made = arg (s .p-size) fp;
+  q-made = arg (s .q-size) fq;
+  a-made = arg (s .a-size) fa;
+  b-made = arg (s .b-size) fb;
+  r-made = arg (s .node-reach .r-size) fr;
+}

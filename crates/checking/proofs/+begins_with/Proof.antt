@@ -15,7 +15,7 @@ use Rattle.subtrees.specs.Subtrees.{stripBy, shortBy, subtree}
 use Rattle.subtrees.specs.Halving.{at-short, few, n-in, left-half, right-half, Forked, forked}
 use Rattle.powers.specs.Structs.{form}
 use Rattle.strips.specs.Structs.{stripOf}
-use Rattle.checking.specs.Answers.{Told, unless-true, unless-false, refused, granted}
+use Rattle.checking.specs.Answers.{Unless, Told, unless-true, unless-false, refused, granted}
 use Rattle.checking.proofs.Found.{no-strip, no-count, yes-leaf, no-left, no-right, yes-node}
 use Prim.Native.Nat.{ℕ, _<_}
 use borrow.Fn.Kinds.{In}
@@ -236,25 +236,33 @@ begins-with-add-nodes-2 t c = omega (arith, few-at t c)
 begins-with-differs-count-requires-2 : (t : ℕ) → begins-with-lts.Need-differs-count-requires-2 (callees t) (begins-with-at t) begins-with.Post
 begins-with-differs-count-requires-2 t c κs = (seven t (c .before .before .before .before .before .before .before .before .before .before .before .before), few-at t c)
 
+-- at the node: its count as the code makes it from its halves', and what comparing that count told
+module _ (t : ℕ) (c : begins-with-lts.After-differs-count2 (callees t) (begins-with-at t) begins-with.Post) where
+  abbrev start : begins-with-lts.Start (callees t) (begins-with-at t) begins-with.Post
+  start = c .before .before .before .before .before .before .before .before .before .before .before .before .before
+
+  abbrev nodes : ℕ
+  nodes = suc (size (left-of t start) + size (right-of t start))
+
+  nodes-is : 1 + c .before .before .before .before .before .begins-with .result + c .before .before .begins-with2 .result ≡ nodes
+  nodes-is = omega (arith, left-is t (c .before .before .before .before) .0, right-is t (c .before) .0)
+
+  count-told : Unless (c .differs-count2 .result) (getD (start .args .s .now) countPlace (pos 0) ≡ pos nodes)
+  count-told = rw nodes-is at (c .differs-count2 .ensures)
+
 begins-with-returns-6 : (t : ℕ) → begins-with-lts.Need-returns-6 (callees t) (begins-with-at t) begins-with.Post
 begins-with-returns-6 t c =
-    let d = c .before .before in
-    let b = d .before .before .before in
-    let n : 1 + b .before .begins-with .result + d .before .begins-with2 .result ≡ suc (size (left-of t (c .before .before .before .before .before .before .before .before .before .before .before .before .before .before)) + size (right-of t (c .before .before .before .before .before .before .before .before .before .before .before .before .before .before))) = omega (arith, left-is t b .0, right-is t d .0) in
-    let u = rw n at (c .before .differs-count2 .ensures) in
-    let s = c .before .before .before .before .before .before .before .before .before .before .before .before .before .before in
-    let a = c .before .before .before .before .before .before .before .before .before .before .before .before .before in
-    no-count (s .args .limit) (form (s .args .cx)) (form (s .args .cy)) (s .args .left) (s .args .n) (s .args .m) (stripOf (a .piece-of .result .x) (a .piece-of .result .y)) (strip-is t a) (s .args .s .now) (suc (size (left-of t s) + size (right-of t s))) (ap size (fork-at t (c .before .before .before .before .before .before .before .before) .is)) (unless-true (c .before .differs-count2 .result) (getD (s .args .s .now) countPlace (pos 0) ≡ pos (suc (size (left-of t s) + size (right-of t s)))) u (c .if6 .taken))
+    let k = c .before in
+    let s = start t k in
+    let a = k .before .before .before .before .before .before .before .before .before .before .before .before in
+    no-count (s .args .limit) (form (s .args .cx)) (form (s .args .cy)) (s .args .left) (s .args .n) (s .args .m) (stripOf (a .piece-of .result .x) (a .piece-of .result .y)) (strip-is t a) (s .args .s .now) (nodes t k) (ap size (fork-at t (k .before .before .before .before .before .before .before) .is)) (unless-true (k .differs-count2 .result) (getD (s .args .s .now) countPlace (pos 0) ≡ pos (nodes t k)) (count-told t k) (c .if6 .taken))
 
 begins-with-returns-7 : (t : ℕ) → begins-with-lts.Need-returns-7 (callees t) (begins-with-at t) begins-with.Post
 begins-with-returns-7 t c =
-    let d = c .before .before in
-    let b = d .before .before .before in
-    let n : 1 + b .before .begins-with .result + d .before .begins-with2 .result ≡ suc (size (left-of t (c .before .before .before .before .before .before .before .before .before .before .before .before .before .before)) + size (right-of t (c .before .before .before .before .before .before .before .before .before .before .before .before .before .before))) = omega (arith, left-is t b .0, right-is t d .0) in
-    let u = rw n at (c .before .differs-count2 .ensures) in
-    let s = c .before .before .before .before .before .before .before .before .before .before .before .before .before .before in
-    let a = c .before .before .before .before .before .before .before .before .before .before .before .before .before in
-    rw n (yes-node (s .args .limit) (form (s .args .cx)) (form (s .args .cy)) (s .args .left) (s .args .n) (s .args .m) (stripOf (a .piece-of .result .x) (a .piece-of .result .y)) (strip-is t a) (s .args .s .now) (fork-at t (c .before .before .before .before .before .before .before .before)) (seven t s) (strip-at t (c .before .before .before .before .before .before .before .before .before)) (left-is t b .1) (right-is t d .1) (unless-false (c .before .differs-count2 .result) (getD (s .args .s .now) countPlace (pos 0) ≡ pos (suc (size (left-of t s) + size (right-of t s)))) u (c .if6 .left)))
+    let k = c .before in
+    let s = start t k in
+    let a = k .before .before .before .before .before .before .before .before .before .before .before .before in
+    rw (nodes-is t k) (yes-node (s .args .limit) (form (s .args .cx)) (form (s .args .cy)) (s .args .left) (s .args .n) (s .args .m) (stripOf (a .piece-of .result .x) (a .piece-of .result .y)) (strip-is t a) (s .args .s .now) (fork-at t (k .before .before .before .before .before .before .before)) (seven t s) (strip-at t (k .before .before .before .before .before .before .before .before)) (left-is t (k .before .before .before .before) .1) (right-is t (k .before) .1) (unless-false (k .differs-count2 .result) (getD (s .args .s .now) countPlace (pos 0) ≡ pos (nodes t k)) (count-told t k) (c .if6 .left)))
 
 pub +begins-with-spec : {M : Type 1} → statement M
 +begins-with-spec = close μ-begins-with λ t. begins-with-lts.spec (callees t)

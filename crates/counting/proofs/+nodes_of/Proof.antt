@@ -8,7 +8,7 @@ use Rattle.subtrees.specs.Subtrees.{stripBy, subtree}
 use Rattle.subtrees.specs.Halving.{at-short, at-long, at-node, few, n-in, left-half, right-half}
 use Rattle.subtrees.specs.Counts.{count, kept, count-left, count-right, count-both}
 use Rattle.powers.specs.Structs.{form}
-use Prim.Native.Nat.{ℕ, _<_}
+use Prim.Native.Nat.{ℕ, _≤_, _<_}
 use borrow.Fn.Kinds.{In}
 use borrow.Fn.PlainCycle.{Measures, is, falls, and}
 use Rattle.counting.proofs.nodes_of.Reads as nodes-of
@@ -108,8 +108,9 @@ nodes-of-returns-4 t c =
     let s = a .before .before .before .before in
     rw (node-at t (a .before)) (sym (count-right (stripBy (form (s .args .cx)) (form (s .args .cy)) (s .args .n) (s .args .m)) (left-of t s) (right-of t s) (sym (right-is t b) ∙ c .if4 .taken)))
 
-nodes-of-add-result : (t : ℕ) → nodes-of-lts.Need-add-result (callees t) (nodes-of-at t) nodes-of.Post
-nodes-of-add-result t c =
+-- both halves are there, and have few nodes
+sum-few : (t : ℕ) (c : nodes-of-lts.Else4 (callees t) (nodes-of-at t) nodes-of.Post) → c .before .before .before .nodes-of .result + c .before .nodes-of2 .result ≤ 4096
+sum-few t c =
     let b = c .before in
     let a = b .before .before in
     let s = a .before .before .before .before in
@@ -121,18 +122,11 @@ nodes-of-add-result t c =
     let g = kept (right-of t s) (λ e. c .if4 .left (right-is t b ∙ e)) in
     omega (arith, h, k, d .1, g .1, left-is t a, right-is t b)
 
+nodes-of-add-result : (t : ℕ) → nodes-of-lts.Need-add-result (callees t) (nodes-of-at t) nodes-of.Post
+nodes-of-add-result t c = omega (arith, sum-few t c)
+
 nodes-of-add-result-2 : (t : ℕ) → nodes-of-lts.Need-add-result-2 (callees t) (nodes-of-at t) nodes-of.Post
-nodes-of-add-result-2 t c =
-    let b = c .before in
-    let a = b .before .before in
-    let s = a .before .before .before .before in
-    let z = a .before .if2 .left in
-    let p = s .pre .1 .2 in
-    let h = few (s .args .limit) (form (s .args .cx)) (form (s .args .cy)) (s .args .left - 1) (2 * s .args .n) (2 * s .args .m - 1) (left-half p z) in
-    let k = few (s .args .limit) (form (s .args .cx)) (form (s .args .cy)) (s .args .left - 1) (2 * s .args .n) (2 * s .args .m + 1) (right-half p z) in
-    let d = kept (left-of t s) (λ e. b .before .if3 .left (left-is t a ∙ e)) in
-    let g = kept (right-of t s) (λ e. c .if4 .left (right-is t b ∙ e)) in
-    omega (arith, h, k, d .1, g .1, left-is t a, right-is t b)
+nodes-of-add-result-2 t c = omega (arith, sum-few t c)
 
 nodes-of-returns-5 : (t : ℕ) → nodes-of-lts.Need-returns-5 (callees t) (nodes-of-at t) nodes-of.Post
 nodes-of-returns-5 t c =

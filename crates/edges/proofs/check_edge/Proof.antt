@@ -1,26 +1,17 @@
 -- The walk that is compared is the model's tree. Assumes nothing.
-use mathlib.Core.Path.{_≡_, ap, _∙_}
+use mathlib.Core.Path.{ap, _∙_}
 use native.Mathlib.Omega.{arith}
-use Rattle.integers.specs.Signed.{back}
-use Rattle.model.specs.Jobs.{edgeAt}
-use Rattle.model.specs.Trees.{tree, isLong}
+use Rattle.model.specs.Trees.{isLong}
 use Rattle.model.specs.Store.{size}
-use Rattle.subtrees.specs.Subtrees.{subtree}
 use Rattle.subtrees.specs.Halving.{whole-edge}
 use Rattle.powers.specs.Structs.{form}
-use Rattle.edges.proofs.Whole.{whole-is, x-form, y-form, limit}
-use mir.Syntax.{w64}
-use mir.Val.{toZ, ofZ}
-use lib.IntN.{pos, _*ℤ_}
+use Rattle.edges.proofs.Whole.{limit, Made-of, made-of}
 use borrow.Author.Needs.{needs}
 use Rattle.edges.proofs.check_edge.Statement.{statement}
 use Rattle.edges.proofs.check_edge.Tie as tie
 
-whole : (c : tie.After-power-of2) → let s = c .before .before in
-    subtree (toZ w64 (ofZ w64 (toZ w64 (ofZ w64 (pos 16)) *ℤ toZ w64 (ofZ w64 (s .args .grain))))) (form (c .before .power-of .result)) (form (c .power-of2 .result)) 10 2 1 ≡ tree (s .args .grain) (edgeAt (s .args .places .now) (s .args .e))
-whole c =
-    let s = c .before .before in
-    whole-is (s .args .grain) (s .args .places .now) (s .args .e) _ (form (c .before .power-of .result)) (form (c .power-of2 .result)) (back (limit (s .args .grain) (s .pre .2) (s .fits .grain))) (c .before .power-of .ensures) (c .power-of2 .ensures)
+walk : (c : tie.After-power-of2) → let s = c .before .before in Made-of (s .args .grain) (s .args .places .now) (s .args .e) (form (c .before .power-of .result)) (form (c .power-of2 .result))
+walk c = let s = c .before .before in made-of (s .args .grain) (s .args .places .now) (s .args .e) _ _ (s .pre .0) (s .pre .2) (s .fits .grain) (c .before .power-of .ensures) (c .power-of2 .ensures)
 
 power-of-requires : tie.Need-power-of-requires
 power-of-requires c κs = search needs
@@ -33,16 +24,12 @@ mul-begins-with c = let s = c .before .before in limit (s .args .grain) (s .pre 
 
 begins-with-requires : tie.Need-begins-with-requires
 begins-with-requires c κs =
-    let s = c .before .before in (
-      x-form (s .args .places .now) (s .args .e) (form (c .before .power-of .result)) (s .pre .0) (c .before .power-of .ensures),
-      y-form (s .args .places .now) (s .args .e) (form (c .power-of2 .result)) (s .pre .0) (c .power-of2 .ensures),
-      whole-edge,
-      ap isLong (whole c) ∙ s .pre .3,
-      omega (arith, ap size (whole c), s .pre .4),
-    )
+    let w = walk c in
+    let p = c .before .before .pre in
+    (w .x-sized, w .y-sized, whole-edge, ap isLong (w .is) ∙ p .3, omega (arith, ap size (w .is), p .4))
 
 returns : tie.Need-returns
-returns c = rw (whole (c .before)) at (c .begins-with .ensures)
+returns c = rw (walk (c .before) .is) at (c .begins-with .ensures)
 
 pub check-edge-spec : {M : Type 1} → statement M
 check-edge-spec =

@@ -1,13 +1,15 @@
 -- The walk that is counted is the model's tree. Assumes nothing.
 use mathlib.Core.Path.{ap, _∙_}
-use Rattle.integers.specs.Signed.{back}
 use Rattle.subtrees.specs.Halving.{whole-edge}
 use Rattle.subtrees.specs.Counts.{count}
 use Rattle.powers.specs.Structs.{form}
-use Rattle.edges.proofs.Whole.{whole-is, x-form, y-form, limit}
+use Rattle.edges.proofs.Whole.{limit, Made-of, made-of}
 use borrow.Author.Needs.{needs}
 use Rattle.edges.proofs.count_edge.Statement.{statement}
 use Rattle.edges.proofs.count_edge.Tie as tie
+
+walk : (c : tie.After-power-of2) → let s = c .before .before in Made-of (s .args .grain) (s .args .places .now) (s .args .e) (form (c .before .power-of .result)) (form (c .power-of2 .result))
+walk c = let s = c .before .before in made-of (s .args .grain) (s .args .places .now) (s .args .e) _ _ (s .pre .0) (s .pre .2) (s .fits .grain) (c .before .power-of .ensures) (c .power-of2 .ensures)
 
 power-of-requires : tie.Need-power-of-requires
 power-of-requires c κs = search needs
@@ -19,18 +21,10 @@ mul-nodes-of : tie.Need-mul-nodes-of
 mul-nodes-of c = let s = c .before .before in limit (s .args .grain) (s .pre .2) (s .fits .grain) .fits
 
 nodes-of-requires : tie.Need-nodes-of-requires
-nodes-of-requires c κs =
-    let s = c .before .before in (
-      x-form (s .args .places .now) (s .args .e) (form (c .before .power-of .result)) (s .pre .0) (c .before .power-of .ensures),
-      y-form (s .args .places .now) (s .args .e) (form (c .power-of2 .result)) (s .pre .0) (c .power-of2 .ensures),
-      whole-edge,
-    )
+nodes-of-requires c κs = let w = walk c in (w .x-sized, w .y-sized, whole-edge)
 
 returns : tie.Need-returns
-returns c =
-    let s = c .before .before .before in
-    c .nodes-of .ensures
-    ∙ ap count (whole-is (s .args .grain) (s .args .places .now) (s .args .e) _ (form (c .before .before .power-of .result)) (form (c .before .power-of2 .result)) (back (limit (s .args .grain) (s .pre .2) (s .fits .grain))) (c .before .before .power-of .ensures) (c .before .power-of2 .ensures))
+returns c = c .nodes-of .ensures ∙ ap count (walk (c .before) .is)
 
 pub count-edge-spec : {M : Type 1} → statement M
 count-edge-spec =

@@ -1,40 +1,27 @@
 -- `strip_tests::apart` meets its contract. Assumes nothing.
-use Rattle.integers.specs.Signed.{Made, sized, arg, plus, times, back}
-use Rattle.strip_tests.proofs.Calls.{excess-of}
+use Rattle.integers.specs.Signed.{Made, sized, plus, times, back}
+use Rattle.strip_tests.proofs.Calls.{excess-of, SpanMade, span-made}
 use Rattle.strip_tests.specs.PlainTests.{excessBy}
 use Rattle.strip_tests.proofs.apart.Statement.{statement}
 use Rattle.strip_tests.proofs.apart.Tie as tie
 
-module _ (c : tie.Start) where
-  ax : Made (c .args .ax) (c .args .ax) 1073741824
-  ax = arg (c .pre .ax-size) (c .fits .ax)
-
-  ay : Made (c .args .ay) (c .args .ay) 1073741824
-  ay = arg (c .pre .ay-size) (c .fits .ay)
-
-  ex : Made (c .args .ex) (c .args .ex) 805306368
-  ex = arg (c .pre .ex-size) (c .fits .ex)
-
-  ey : Made (c .args .ey) (c .args .ey) 805306368
-  ey = arg (c .pre .ey-size) (c .fits .ey)
-
-  r : Made (c .args .r) (c .args .r) 16777216
-  r = arg (c .pre .span-reach) (c .fits .r)
+made : (c : tie.Start) → SpanMade (c .args .ax) (c .args .ay) (c .args .ex) (c .args .ey) (c .args .r)
+made c = span-made (c .pre) (c .fits .ax) (c .fits .ay) (c .fits .ex) (c .fits .ey) (c .fits .r)
 
 gx : (c : tie.After-excess) → Made (c .excess .result) (excessBy (c .before .args .ax) (c .before .args .ex)) 1879048192
-gx c = excess-of (ax (c .before)) (ex (c .before)) (c .excess .ensures) tt
+gx c = excess-of (made (c .before) .ax-made) (made (c .before) .ex-made) (c .excess .ensures) tt
 
 gy : (c : tie.After-excess2) → Made (c .excess2 .result) (excessBy (c .before .before .args .ay) (c .before .before .args .ey)) 1879048192
-gy c = excess-of (ay (c .before .before)) (ey (c .before .before)) (c .excess2 .ensures) tt
+gy c = excess-of (made (c .before .before) .ay-made) (made (c .before .before) .ey-made) (c .excess2 .ensures) tt
 
 excess-requires : tie.Need-excess-requires
-excess-requires c κs = (sized 1073741824 (ax c) tt, sized 1073741824 (ex c) tt)
+excess-requires c κs = (sized 1073741824 (made c .ax-made) tt, sized 1073741824 (made c .ex-made) tt)
 
 excess-requires-2 : tie.Need-excess-requires-2
-excess-requires-2 c κs = (sized 1073741824 (ay (c .before)) tt, sized 1073741824 (ey (c .before)) tt)
+excess-requires-2 c κs = (sized 1073741824 (made (c .before) .ay-made) tt, sized 1073741824 (made (c .before) .ey-made) tt)
 
 mul-result : tie.Need-mul-result
-mul-result c = (times (r (c .before .before)) (r (c .before .before)) tt) .fits
+mul-result c = (times (made (c .before .before) .r-made) (made (c .before .before) .r-made) tt) .fits
 
 mul-result-2 : tie.Need-mul-result-2
 mul-result-2 c = (times (gx (c .before)) (gx (c .before)) tt) .fits
@@ -46,7 +33,7 @@ add-result : tie.Need-add-result
 add-result c = (plus (times (gx (c .before)) (gx (c .before)) tt) (times (gy c) (gy c) tt) tt) .fits
 
 returns : tie.Need-returns
-returns c = rw (back (times (r (c .before .before)) (r (c .before .before)) tt), back (plus (times (gx (c .before)) (gx (c .before)) tt) (times (gy c) (gy c) tt) tt))
+returns c = rw (back (times (made (c .before .before) .r-made) (made (c .before .before) .r-made) tt), back (plus (times (gx (c .before)) (gx (c .before)) tt) (times (gy c) (gy c) tt) tt))
 
 pub apart-spec : {M : Type 1} → statement M
 apart-spec =

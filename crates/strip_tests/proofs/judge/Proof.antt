@@ -1,6 +1,6 @@
 -- `strip_tests::judge` meets its contract. Assumes nothing.
-use Rattle.integers.specs.Signed.{Made, sized, arg, plus, back}
-use Rattle.strip_tests.proofs.Calls.{span-of, abs-of}
+use Rattle.integers.specs.Signed.{Made, sized, plus, back}
+use Rattle.strip_tests.proofs.Calls.{span-of, abs-of, NodeMade, node-made}
 use lib.IntN.{_+ℤ_}
 use mathlib.Core.Path.{_≡_, refl, _∙_, sym}
 use Rattle.integers.specs.Absolute.{absℤ}
@@ -12,39 +12,20 @@ use borrow.Author.Needs.{needs}
 use Rattle.strip_tests.proofs.judge.Statement.{statement}
 use Rattle.strip_tests.proofs.judge.Tie as tie
 
-module _ (c : tie.Start) where
-  wx : Made (c .args .wx) (c .args .wx) 1073741824
-  wx = arg (c .pre .wx-size) (c .fits .wx)
-
-  wy : Made (c .args .wy) (c .args .wy) 1073741824
-  wy = arg (c .pre .wy-size) (c .fits .wy)
-
-  p : Made (c .args .p) (c .args .p) 536870912
-  p = arg (c .pre .p-size) (c .fits .p)
-
-  q : Made (c .args .q) (c .args .q) 536870912
-  q = arg (c .pre .q-size) (c .fits .q)
-
-  a : Made (c .args .a) (c .args .a) 268435456
-  a = arg (c .pre .a-size) (c .fits .a)
-
-  b : Made (c .args .b) (c .args .b) 268435456
-  b = arg (c .pre .b-size) (c .fits .b)
-
-  r : Made (c .args .r) (c .args .r) 16777216
-  r = arg (c .pre .node-reach .r-size) (c .fits .r)
+made : (c : tie.Start) → NodeMade (c .args .wx) (c .args .wy) (c .args .p) (c .args .q) (c .args .a) (c .args .b) (c .args .r)
+made c = node-made (c .pre) (c .fits .wx) (c .fits .wy) (c .fits .p) (c .fits .q) (c .fits .a) (c .fits .b) (c .fits .r)
 
 ax : (c : tie.After-abs) → Made (c .abs .result) (absℤ (c .before .args .wx)) 1073741824
-ax c = abs-of (wx (c .before)) (c .abs .ensures) tt
+ax c = abs-of (made (c .before) .wx-made) (c .abs .ensures) tt
 
 ay : (c : tie.After-abs2) → Made (c .abs2 .result) (absℤ (c .before .before .args .wy)) 1073741824
-ay c = abs-of (wy (c .before .before)) (c .abs2 .ensures) tt
+ay c = abs-of (made (c .before .before) .wy-made) (c .abs2 .ensures) tt
 
 ap : (c : tie.After-abs3) → Made (c .abs3 .result) (absℤ (c .before .before .before .args .p)) 536870912
-ap c = abs-of (p (c .before .before .before)) (c .abs3 .ensures) tt
+ap c = abs-of (made (c .before .before .before) .p-made) (c .abs3 .ensures) tt
 
 aq : (c : tie.After-abs4) → Made (c .abs4 .result) (absℤ (c .before .before .before .before .args .q)) 536870912
-aq c = abs-of (q (c .before .before .before .before)) (c .abs4 .ensures) tt
+aq c = abs-of (made (c .before .before .before .before) .q-made) (c .abs4 .ensures) tt
 
 -- the three tests, as the code knows their answers
 module _ (c : tie.After-inside) where
@@ -52,21 +33,21 @@ module _ (c : tie.After-inside) where
   start = c .before .before .before .before .before
 
   inside-is : c .inside .result ≡ insideBy (absℤ (start .args .wx)) (absℤ (start .args .wy)) (absℤ (start .args .p) +ℤ start .args .a) (absℤ (start .args .q) +ℤ start .args .b) (start .args .r)
-  inside-is = rw (back (ax (c .before .before .before .before)), back (ay (c .before .before .before)), back (plus (ap (c .before .before)) (a (c .before .before .before .before .before)) tt), back (plus (aq (c .before)) (b (c .before .before .before .before .before)) tt), back (r (c .before .before .before .before .before))) at (c .inside .ensures)
+  inside-is = rw (back (ax (c .before .before .before .before)), back (ay (c .before .before .before)), back (plus (ap (c .before .before)) (made (c .before .before .before .before .before) .a-made) tt), back (plus (aq (c .before)) (made (c .before .before .before .before .before) .b-made) tt), back (made (c .before .before .before .before .before) .r-made)) at (c .inside .ensures)
 
 module _ (c : tie.After-apart) where
   abbrev startA : tie.Start
   startA = c .before .before .before .before .before .before .before
 
   apart-is : c .apart .result ≡ apartBy (absℤ (startA .args .wx)) (absℤ (startA .args .wy)) (absℤ (startA .args .p) +ℤ startA .args .a) (absℤ (startA .args .q) +ℤ startA .args .b) (startA .args .r)
-  apart-is = rw (back (ax (c .before .before .before .before .before .before)), back (ay (c .before .before .before .before .before)), back (plus (ap (c .before .before .before .before)) (a (c .before .before .before .before .before .before .before)) tt), back (plus (aq (c .before .before .before)) (b (c .before .before .before .before .before .before .before)) tt), back (r (c .before .before .before .before .before .before .before))) at (c .apart .ensures)
+  apart-is = rw (back (ax (c .before .before .before .before .before .before)), back (ay (c .before .before .before .before .before)), back (plus (ap (c .before .before .before .before)) (made (c .before .before .before .before .before .before .before) .a-made) tt), back (plus (aq (c .before .before .before)) (made (c .before .before .before .before .before .before .before) .b-made) tt), back (made (c .before .before .before .before .before .before .before) .r-made)) at (c .apart .ensures)
 
 module _ (c : tie.After-slanted) where
   abbrev startS : tie.Start
   startS = c .before .before .before .before .before .before .before .before .before
 
   slanted-is : c .slanted .result ≡ slantedBy (startS .args .wx) (startS .args .wy) (startS .args .p) (startS .args .q) (startS .args .a) (startS .args .b) (startS .args .r)
-  slanted-is = rw (back (wx startS), back (wy startS), back (p startS), back (q startS), back (a startS), back (b startS), back (r startS)) at (c .slanted .ensures)
+  slanted-is = rw (back (made startS .wx-made), back (made startS .wy-made), back (made startS .p-made), back (made startS .q-made), back (made startS .a-made), back (made startS .b-made), back (made startS .r-made)) at (c .slanted .ensures)
 
 by-inside : (i w : Bool) → i ≡ true → 2 ≡ code (judge i w)
 by-inside true w e = refl
@@ -84,31 +65,31 @@ by-none : (i a s : Bool) → i ≡ false → a ≡ false → s ≡ false → 1 �
 by-none i a s e f g = rw (e, f, g)
 
 abs-requires : tie.Need-abs-requires
-abs-requires c κs = sized 4000000000000000000 (wx c) tt
+abs-requires c κs = sized 4000000000000000000 (made c .wx-made) tt
 
 abs-requires-2 : tie.Need-abs-requires-2
-abs-requires-2 c κs = sized 4000000000000000000 (wy (c .before)) tt
+abs-requires-2 c κs = sized 4000000000000000000 (made (c .before) .wy-made) tt
 
 abs-requires-3 : tie.Need-abs-requires-3
-abs-requires-3 c κs = sized 4000000000000000000 (p (c .before .before)) tt
+abs-requires-3 c κs = sized 4000000000000000000 (made (c .before .before) .p-made) tt
 
 add-ex : tie.Need-add-ex
-add-ex c = (plus (ap c) (a (c .before .before .before)) tt) .fits
+add-ex c = (plus (ap c) (made (c .before .before .before) .a-made) tt) .fits
 
 abs-requires-4 : tie.Need-abs-requires-4
-abs-requires-4 c κs = sized 4000000000000000000 (q (c .before .before .before)) tt
+abs-requires-4 c κs = sized 4000000000000000000 (made (c .before .before .before) .q-made) tt
 
 add-ey : tie.Need-add-ey
-add-ey c = (plus (aq c) (b (c .before .before .before .before)) tt) .fits
+add-ey c = (plus (aq c) (made (c .before .before .before .before) .b-made) tt) .fits
 
 inside-requires : tie.Need-inside-requires
-inside-requires c κs = rw (back (ax (c .before .before .before)), back (ay (c .before .before)), back (plus (ap (c .before)) (a (c .before .before .before .before)) tt), back (plus (aq c) (b (c .before .before .before .before)) tt), back (r (c .before .before .before .before))) (span-of ((c .before .before .before .before) .pre))
+inside-requires c κs = rw (back (ax (c .before .before .before)), back (ay (c .before .before)), back (plus (ap (c .before)) (made (c .before .before .before .before) .a-made) tt), back (plus (aq c) (made (c .before .before .before .before) .b-made) tt), back (made (c .before .before .before .before) .r-made)) (span-of ((c .before .before .before .before) .pre))
 
 returns : tie.Need-returns
 returns c = by-inside _ _ (sym (inside-is (c .before)) ∙ c .if1 .taken)
 
 apart-requires : tie.Need-apart-requires
-apart-requires c κs = rw (back (ax (c .before .before .before .before .before)), back (ay (c .before .before .before .before)), back (plus (ap (c .before .before .before)) (a (c .before .before .before .before .before .before)) tt), back (plus (aq (c .before .before)) (b (c .before .before .before .before .before .before)) tt), back (r (c .before .before .before .before .before .before))) (span-of ((c .before .before .before .before .before .before) .pre))
+apart-requires c κs = rw (back (ax (c .before .before .before .before .before)), back (ay (c .before .before .before .before)), back (plus (ap (c .before .before .before)) (made (c .before .before .before .before .before .before) .a-made) tt), back (plus (aq (c .before .before)) (made (c .before .before .before .before .before .before) .b-made) tt), back (made (c .before .before .before .before .before .before) .r-made)) (span-of ((c .before .before .before .before .before .before) .pre))
 
 returns-2 : tie.Need-returns-2
 returns-2 c = by-apart _ _ _ (sym (inside-is (c .before .before .before)) ∙ c .before .before .if1 .left) (sym (apart-is (c .before)) ∙ c .if2 .taken)
