@@ -1,13 +1,12 @@
 // One edge of a job, by its place among the job's 512 numbers: its strip tree counted, built and checked.
 use powers::Power;
 ghost use mathlib.Core.Path.{_≡_};
-ghost use mathlib.Core.Bool.{false};
 ghost use mathlib.Core.List.{_++_};
 ghost use Prim.Native.Nat.{_+_, _*_, _≤_, _<_};
 ghost use lib.IntN.{pos, natAbs};
 ghost use lib.ListN.{length, getD, drop};
 ghost use Rattle.model.specs.Jobs.{cubicAt, edgeAt};
-ghost use Rattle.model.specs.Trees.{tree, isLong};
+ghost use Rattle.model.specs.Trees.{tree};
 ghost use Rattle.model.specs.Store.{width, size, flatten};
 ghost use Rattle.ranges.specs.PowerForm.{formOf};
 ghost use Rattle.ranges.specs.Jobs.{Limits};
@@ -15,6 +14,7 @@ ghost use Rattle.subtrees.specs.Preorder.{Begins};
 ghost use Rattle.subtrees.specs.Counts.{count};
 ghost use Rattle.powers.specs.Structs.{form};
 ghost use Rattle.checking.specs.Answers.{Told};
+ghost use Rattle.edges.specs.Ready.{Ready};
 
 fn control(places: &[i32; 512], i: usize) -> i64
     requires within { ⌜ i < 512 ⌝ }
@@ -50,7 +50,7 @@ pub fn count_edge(places: &[i32; 512], e: usize, grain: i64) -> usize
 
 // writes the tree of edge e at the front of s, and returns its nodes
 pub fn build_edge(s: &mut [i32], places: &[i32; 512], e: usize, grain: i64) -> usize
-    requires ready { ⌜ Limits (now places) × (e < 64) × (natAbs grain ≤ 100000) × (isLong (tree grain (edgeAt (now places) e)) ≡ false) × (width * size (tree grain (edgeAt (now places) e)) ≤ length (now s)) ⌝ }
+    requires ready { ⌜ Ready grain (now places) e (length (now s)) ⌝ }
     ensures nodes { λ r. ⌜ r ≡ size (tree grain (edgeAt (now (places .entry)) e)) ⌝ }
     ensures written { λ _. ⌜ now (s .exit) ≡ flatten (tree grain (edgeAt (now (places .entry)) e)) ++ drop (width * size (tree grain (edgeAt (now (places .entry)) e))) (now (s .entry)) ⌝ }
 {
@@ -61,7 +61,7 @@ pub fn build_edge(s: &mut [i32], places: &[i32; 512], e: usize, grain: i64) -> u
 
 // the nodes of the tree of edge e if s begins with it, and 0 otherwise
 pub fn check_edge(s: &[i32], places: &[i32; 512], e: usize, grain: i64) -> usize
-    requires ready { ⌜ Limits (now places) × (e < 64) × (natAbs grain ≤ 100000) × (isLong (tree grain (edgeAt (now places) e)) ≡ false) × (width * size (tree grain (edgeAt (now places) e)) ≤ length (now s)) ⌝ }
+    requires ready { ⌜ Ready grain (now places) e (length (now s)) ⌝ }
     ensures told { λ r. ⌜ Told r (size (tree grain (edgeAt (now (places .entry)) e))) (Begins (tree grain (edgeAt (now (places .entry)) e)) (now (s .entry))) ⌝ }
 {
     let cx = power_of(places, e, 0);

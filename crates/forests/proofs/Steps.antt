@@ -2,24 +2,27 @@
 use mathlib.Core.Path.{_≡_, refl, sym, ap, _∙_}
 use mathlib.Core.Bool.{Bool, true, false, cond}
 use mathlib.Core.List.{List, _∷_, _++_}
-use Prim.Native.Nat.{ℕ, _+_, _*_, _-_, _≤_}
+use Prim.Native.Nat.{ℕ, _+_, _*_, _-_, _≤_, _<_}
 use native.Mathlib.Omega.{arith}
 use borrow.Rule.Slice.PartMut.{putMid, midOf}
-use lib.IntN.{ℤ}
+use lib.IntN.{ℤ, natAbs}
 use mir.Syntax.{w32, w64}
 use mir.Val.{SFits, toZ, ofZ}
 use mir.Facts.{toZ-ofZ, sfits-widen}
 use lib.ListN.{length, take, drop, length-append, length-drop}
 use lib.Seq.{take-at}
 use Rattle.sequences.specs.Parts.{tail-mid, tail-put}
-use Rattle.model.specs.Jobs.{edgeAt}
-use Rattle.model.specs.Trees.{Tree, tree, isLong, anyLong}
+use Rattle.model.specs.Jobs.{edgeAt, edgesFrom}
+use Rattle.model.specs.Trees.{Tree, tree, trees, isLong, anyLong}
 use Rattle.model.specs.Store.{width, size, sizes, flatten, flattenAll, begins}
+use Rattle.ranges.specs.Jobs.{Limits}
 use Rattle.subtrees.specs.Preorder.{Begins, BeginsAll, length-flatten, later, joined, all-yes, all-others}
 use Rattle.subtrees.specs.Begins.{begins-all, all-begins}
 use Rattle.subtrees.specs.Halving.{or-left, or-right}
 use Rattle.subtrees.specs.Counts.{count, lost}
-use Rattle.forests.specs.Walk.{treesFrom, more-is, Says}
+use Rattle.subtrees.specs.Sizes.{few-nodes}
+use Rattle.edges.specs.Ready.{Ready}
+use Rattle.forests.specs.Walk.{treesFrom, Ahead, from-first, more-is, Says}
 
 -- ---- counting
 pub count-stop : (t : Tree) (us : List Tree) (s : ℕ) → count t ≡ 0 → 0 ≡ cond (anyLong (t ∷ us)) 0 (s + sizes (t ∷ us))
@@ -31,17 +34,31 @@ count-go t us s k h e = let z : s + k + sizes us ≡ s + (size t + sizes us) = o
 -- ---- what is known of the first tree and the others, in a store of m numbers
 pub record Split (g : ℤ) (l : List ℤ) (n e m : ℕ) : Type 0 where
   pub is : treesFrom g l n e ≡ tree g (edgeAt l e) ∷ treesFrom g l n (e + 1)
-  pub first-ok : isLong (tree g (edgeAt l e)) ≡ false
-  pub others-ok : anyLong (treesFrom g l n (e + 1)) ≡ false
+  pub first : Ready g l e m
+  pub first-few : size (tree g (edgeAt l e)) < 2048
+  pub others : (k : ℕ) → m ≤ width * size (tree g (edgeAt l e)) + k → Ahead g l n (e + 1) k
   pub room : width * size (tree g (edgeAt l e)) + width * sizes (treesFrom g l n (e + 1)) ≤ m
 
-pub split : (g : ℤ) (l : List ℤ) (n e m : ℕ) → e ≤ n → (e ≡ n → ⊥) → anyLong (treesFrom g l n e) ≡ false → width * sizes (treesFrom g l n e) ≤ m → Split g l n e m
-split g l n e m h k a b =
+pub split : (g : ℤ) (l : List ℤ) (n e m : ℕ) → Ahead g l n e m → (e ≡ n → ⊥) → Split g l n e m
+split g l n e m a k =
     let t = tree g (edgeAt l e) in
     let us = treesFrom g l n (e + 1) in
-    let i = more-is g l n e h k in
-    let c = sym (ap anyLong i) ∙ a in
-    record { is = i; first-ok = or-left (isLong t) (anyLong us) c; others-ok = or-right (isLong t) (anyLong us) c; room = omega (arith, ap sizes i) }
+    let i = more-is g l n e (a .from) k in
+    let c = sym (ap anyLong i) ∙ a .short in
+    let r : width * size t + width * sizes us ≤ m = omega (arith, ap sizes i, a .fits) in
+    record {
+      is = i;
+      first = record { limits = a .limits; within = omega (arith, a .from, a .few, k); grain-size = a .grain-size; short = or-left (isLong t) (anyLong us) c; fits = omega (arith, r) };
+      first-few = few-nodes g (edgeAt l e);
+      others = λ h b. record { limits = a .limits; from = omega (arith, a .from, k); few = a .few; grain-size = a .grain-size; short = or-right (isLong t) (anyLong us) c; fits = omega (arith, r) };
+      room = r;
+    }
+
+-- a job's trees are those from edge 0 on
+pub from-start : (g : ℤ) (l : List ℤ) (n m : ℕ) → Limits l → n ≤ 64 → natAbs g ≤ 100000 → anyLong (trees g (edgesFrom l n 0)) ≡ false → width * sizes (trees g (edgesFrom l n 0)) ≤ m → Ahead g l n 0 m
+from-start g l n m a b c d e =
+    let i = from-first g l n in
+    record { limits = a; from = omega arith; few = b; grain-size = c; short = ap anyLong i ∙ d; fits = omega (arith, ap sizes i) }
 
 -- ---- building
 pub length-built : (s u : List ℤ) (t : Tree) → u ≡ flatten t ++ drop (width * size t) s → width * size t ≤ length s → length u ≡ length s

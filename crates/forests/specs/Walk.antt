@@ -2,15 +2,26 @@
 use mathlib.Core.Path.{_≡_}
 use mathlib.Core.Bool.{Bool, true, false}
 use mathlib.Core.List.{List, [], _∷_}
-use Prim.Native.Nat.{ℕ, suc, _+_, _-_, _≤_}
+use Prim.Native.Nat.{ℕ, suc, _+_, _*_, _-_, _≤_}
 use native.Mathlib.Omega.{arith}
-use lib.IntN.{ℤ}
+use lib.IntN.{ℤ, natAbs}
 use Rattle.model.specs.Jobs.{edgeAt, edgesFrom}
-use Rattle.model.specs.Trees.{Tree, tree, trees}
+use Rattle.model.specs.Trees.{Tree, tree, trees, anyLong}
+use Rattle.model.specs.Store.{width, sizes}
+use Rattle.ranges.specs.Jobs.{Limits}
 
 -- those of edges e to n − 1
 unfoldable pub treesFrom : ℤ → List ℤ → ℕ → ℕ → List Tree
 treesFrom T l n e = trees T (edgesFrom l (n - e) e)
+
+-- of the places l, with grain g: numbers in range, no tree that is long, and room for all of them among m numbers
+pub record Ahead (g : ℤ) (l : List ℤ) (n e m : ℕ) : Type 0 where
+  pub limits : Limits l
+  pub from : e ≤ n
+  pub few : n ≤ 64
+  pub grain-size : natAbs g ≤ 100000
+  pub short : anyLong (treesFrom g l n e) ≡ false
+  pub fits : width * sizes (treesFrom g l n e) ≤ m
 
 -- true where P holds, and false where it fails
 abbrev pub Says : Bool → Type 0 → Type 0

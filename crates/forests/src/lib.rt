@@ -11,7 +11,7 @@ ghost use Rattle.model.specs.Trees.{trees, anyLong};
 ghost use Rattle.model.specs.Store.{width, sizes, flattenAll, begins};
 ghost use Rattle.ranges.specs.Jobs.{Limits, GrainSized};
 ghost use Rattle.subtrees.specs.Preorder.{BeginsAll};
-ghost use Rattle.forests.specs.Walk.{treesFrom, Says};
+ghost use Rattle.forests.specs.Walk.{treesFrom, Ahead, Says};
 
 // ---- from edge e on
 
@@ -32,7 +32,7 @@ fn count_from(places: &[i32; 512], e: usize, count: usize, grain: i64, sum: usiz
 
 // writes the trees at the front of s
 fn build_from(s: &mut [i32], places: &[i32; 512], e: usize, count: usize, grain: i64)
-    requires ready { ⌜ Limits (now places) × (e ≤ count) × (count ≤ 64) × (natAbs grain ≤ 100000) × (anyLong (treesFrom grain (now places) count e) ≡ false) × (width * sizes (treesFrom grain (now places) count e) ≤ length (now s)) ⌝ }
+    requires ready { ⌜ Ahead grain (now places) count e (length (now s)) ⌝ }
     ensures written { λ _. ⌜ now (s .exit) ≡ flattenAll (treesFrom grain (now (places .entry)) count e) ++ drop (width * sizes (treesFrom grain (now (places .entry)) count e)) (now (s .entry)) ⌝ }
 {
     if e == count {
@@ -45,7 +45,7 @@ fn build_from(s: &mut [i32], places: &[i32; 512], e: usize, count: usize, grain:
 
 // does s begin with the trees
 fn holds_from(s: &[i32], places: &[i32; 512], e: usize, count: usize, grain: i64) -> bool
-    requires ready { ⌜ Limits (now places) × (e ≤ count) × (count ≤ 64) × (natAbs grain ≤ 100000) × (anyLong (treesFrom grain (now places) count e) ≡ false) × (width * sizes (treesFrom grain (now places) count e) ≤ length (now s)) ⌝ }
+    requires ready { ⌜ Ahead grain (now places) count e (length (now s)) ⌝ }
     ensures says { λ r. ⌜ Says r (BeginsAll (treesFrom grain (now (places .entry)) count e) (now (s .entry))) ⌝ }
 {
     if e == count {

@@ -84,6 +84,8 @@ SomeNear O C l = (Q : Point) → C Q → (P : Point) × O P × AtMost P Q l
 
 -- ---- demand 3, of the verdict x that a map has for a cell
 pub record Demand3 (O C : Points) (R T : ℤ) (M : ℕ) (x : Verdict) : Type 0 where
+  -- a map says clear, inside or doubtful, and never that a cell is mixed
+  pub not-mixed : x ≡ mixed → ⊥
   -- clear and inside are exact
   pub if-clear : x ≡ clear → Clear O C R
   pub if-inside : x ≡ within → Inside O C R

@@ -154,6 +154,7 @@ module _ (O : Points) (ts : List Tree) (cov : CoversAll O ts) (R T : ℤ) (hR : 
 
   pub drawn-by-demand-3 : AllShorts T ts → (x : Verdict) → DrawnBy (pos 16 *ℤ R) ts M X Y i j x → Demand3 O (CellPoint M X Y i j) R T M x
   drawn-by-demand-3 sh x z = record {
+    not-mixed = λ e. let d = subst (λ v. DrawnBy r ts M X Y i j v) e z in settled-mixed (exploreAll (verdict r (d .cell)) ts) (d .said);
     if-clear = λ e. is-clear (subst (λ v. DrawnBy r ts M X Y i j v) e z);
     if-inside = λ e. is-inside (subst (λ v. DrawnBy r ts M X Y i j v) e z);
     if-doubtful = λ e. let d = subst (λ v. DrawnBy r ts M X Y i j v) e z in (no-closer sh d, some-near sh d);

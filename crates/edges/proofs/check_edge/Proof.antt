@@ -11,7 +11,7 @@ use Rattle.edges.proofs.check_edge.Statement.{statement}
 use Rattle.edges.proofs.check_edge.Tie as tie
 
 walk : (c : tie.After-power-of2) → let s = c .before .before in Made-of (s .args .grain) (s .args .places .now) (s .args .e) (form (c .before .power-of .result)) (form (c .power-of2 .result))
-walk c = let s = c .before .before in made-of (s .args .grain) (s .args .places .now) (s .args .e) _ _ (s .pre .0) (s .pre .2) (s .fits .grain) (c .before .power-of .ensures) (c .power-of2 .ensures)
+walk c = let s = c .before .before in made-of (s .args .grain) (s .args .places .now) (s .args .e) _ _ (s .pre .limits) (s .pre .grain-size) (s .fits .grain) (c .before .power-of .ensures) (c .power-of2 .ensures)
 
 power-of-requires : tie.Need-power-of-requires
 power-of-requires c κs = search needs
@@ -20,13 +20,13 @@ power-of-requires-2 : tie.Need-power-of-requires-2
 power-of-requires-2 c κs = search needs
 
 mul-begins-with : tie.Need-mul-begins-with
-mul-begins-with c = let s = c .before .before in limit (s .args .grain) (s .pre .2) (s .fits .grain) .fits
+mul-begins-with c = let s = c .before .before in limit (s .args .grain) (s .pre .grain-size) (s .fits .grain) .fits
 
 begins-with-requires : tie.Need-begins-with-requires
 begins-with-requires c κs =
     let w = walk c in
     let p = c .before .before .pre in
-    (w .x-sized, w .y-sized, whole-edge, ap isLong (w .is) ∙ p .3, omega (arith, ap size (w .is), p .4))
+    (w .x-sized, w .y-sized, whole-edge, ap isLong (w .is) ∙ p .short, omega (arith, ap size (w .is), p .fits))
 
 returns : tie.Need-returns
 returns c = rw (walk (c .before) .is) at (c .begins-with .ensures)

@@ -10,7 +10,6 @@ use Rattle.model.specs.Jobs.{edgeAt}
 use Rattle.model.specs.Trees.{Tree, tree}
 use Rattle.model.specs.Store.{width, size, flatten}
 use Rattle.sequences.specs.Parts.{tail-mid}
-use Rattle.subtrees.specs.Sizes.{few-nodes}
 use Rattle.forests.specs.Walk.{treesFrom, end-is}
 use Rattle.forests.proofs.Steps.{Split, split, length-built, built}
 use Prim.Native.Nat.{ℕ, _<_}
@@ -44,13 +43,7 @@ abbrev others-of : (t : ℕ) → build-from-lts.Start (callees t) (build-from-at
 others-of t s = treesFrom (s .args .grain) (s .args .places .now) (s .args .count) (s .args .e + 1)
 
 split-at : (t : ℕ) (c : build-from-lts.Else1 (callees t) (build-from-at t) build-from.Post) → let s = c .before in Split (s .args .grain) (s .args .places .now) (s .args .count) (s .args .e) (length (s .args .s .now))
-split-at t c =
-    let s = c .before in
-    let p = s .pre .1 in
-    split (s .args .grain) (s .args .places .now) (s .args .count) (s .args .e) (length (s .args .s .now)) (p .1) (c .if1 .left) (p .4) (p .5)
-
-few-at : (t : ℕ) (s : build-from-lts.Start (callees t) (build-from-at t) build-from.Post) → size (first-of t s) < 2048
-few-at t s = few-nodes (s .args .grain) (edgeAt (s .args .places .now) (s .args .e))
+split-at t c = let s = c .before in split (s .args .grain) (s .args .places .now) (s .args .count) (s .args .e) (length (s .args .s .now)) (s .pre .1) (c .if1 .left)
 
 built-is : (t : ℕ) (c : build-from-lts.After-build-edge (callees t) (build-from-at t) build-from.Post) → let s = c .before .before .before in
     (c .build-edge .result ≡ size (first-of t s)) × (c .build-edge .last .0 ≡ flatten (first-of t s) ++ drop (width * size (first-of t s)) (s .args .s .now))
@@ -63,18 +56,13 @@ build-from-returns : (t : ℕ) → build-from-lts.Need-returns (callees t) (buil
 build-from-returns t c = let s = c .before in rw (end-is (s .args .grain) (s .args .places .now) (s .args .count) (s .args .e) (c .if1 .taken))
 
 build-from-build-edge-requires : (t : ℕ) → build-from-lts.Need-build-edge-requires (callees t) (build-from-at t) build-from.Post
-build-from-build-edge-requires t c κs =
-    let q = c .before in
-    let s = q .before in
-    let p = s .pre .1 in
-    let d = split-at t q in
-    rw (toZ-ofZ (s .fits .grain)) (p .0, omega (arith, p .1, p .2, q .if1 .left), p .3, d .first-ok, omega (arith, d .room))
+build-from-build-edge-requires t c κs = let q = c .before in rw (toZ-ofZ (q .before .fits .grain)) (split-at t q .first)
 
 build-from-mul-at : (t : ℕ) → build-from-lts.Need-mul-at (callees t) (build-from-at t) build-from.Post
-build-from-mul-at t c = let g = c .before in omega (arith, built-is t g .0, few-at t (g .before .before .before))
+build-from-mul-at t c = let g = c .before in omega (arith, built-is t g .0, split-at t (g .before .before) .first-few)
 
 build-from-mul-build-from : (t : ℕ) → build-from-lts.Need-mul-build-from (callees t) (build-from-at t) build-from.Post
-build-from-mul-build-from t c = let g = c .before in omega (arith, built-is t g .0, few-at t (g .before .before .before))
+build-from-mul-build-from t c = let g = c .before in omega (arith, built-is t g .0, split-at t (g .before .before) .first-few)
 
 build-from-sub-build-from : (t : ℕ) → build-from-lts.Need-sub-build-from (callees t) (build-from-at t) build-from.Post
 build-from-sub-build-from t c = let g = c .before in omega (arith, built-is t g .0, long-at t g, split-at t (g .before .before) .room)
@@ -86,18 +74,16 @@ build-from-part-build-from-end : (t : ℕ) → build-from-lts.Need-part-build-fr
 build-from-part-build-from-end t c = omega arith
 
 build-from-add-build-from : (t : ℕ) → build-from-lts.Need-add-build-from (callees t) (build-from-at t) build-from.Post
-build-from-add-build-from t c = let p = c .before .before .before .before .before .pre .1 in omega (arith, p .1, p .2)
+build-from-add-build-from t c = let p = c .before .before .before .before .before .pre .1 in omega (arith, p .from, p .few)
 
 build-from-build-from-requires : (t : ℕ) → build-from-lts.Need-build-from-requires (callees t) (build-from-at t) build-from.Post
 build-from-build-from-requires t c κs =
     let g = c .before .before in
     let q = g .before .before in
     let s = q .before in
-    let p = s .pre .1 in
-    let d = split-at t q in
     rw (toZ-ofZ (s .fits .grain)) (
-      omega (arith, s .pre .0, p .1, q .if1 .left),
-      (p .0, omega (arith, p .1, q .if1 .left), p .2, p .3, d .others-ok, rw (tail-mid (width * g .build-edge .result) (g .build-edge .last .0)) (simp length-drop (omega (arith, built-is t g .0, long-at t g, d .room)))),
+      omega (arith, s .pre .0, s .pre .1 .from, q .if1 .left),
+      split-at t q .others _ (rw (tail-mid (width * g .build-edge .result) (g .build-edge .last .0)) (simp length-drop (omega (arith, built-is t g .0, long-at t g)))),
     )
 
 build-from-same-length : (t : ℕ) → build-from-lts.Need-same-length (callees t) (build-from-at t) build-from.Post

@@ -10,7 +10,6 @@ use Rattle.model.specs.Trees.{Tree, tree}
 use Rattle.model.specs.Store.{width, size}
 use Rattle.subtrees.specs.Preorder.{size-pos, tail, Begins, all-first}
 use Rattle.checking.specs.Answers.{Told, refused, granted}
-use Rattle.subtrees.specs.Sizes.{few-nodes}
 use Rattle.forests.specs.Walk.{treesFrom, end-is}
 use Rattle.forests.proofs.Steps.{Split, split, says-more}
 use Prim.Native.Nat.{ℕ, _<_}
@@ -44,13 +43,7 @@ abbrev others-of : (t : ℕ) → holds-from-lts.Start (callees t) (holds-from-at
 others-of t s = treesFrom (s .args .grain) (s .args .places .now) (s .args .count) (s .args .e + 1)
 
 split-at : (t : ℕ) (c : holds-from-lts.Else1 (callees t) (holds-from-at t) holds-from.Post) → let s = c .before in Split (s .args .grain) (s .args .places .now) (s .args .count) (s .args .e) (length (s .args .s .now))
-split-at t c =
-    let s = c .before in
-    let p = s .pre .1 in
-    split (s .args .grain) (s .args .places .now) (s .args .count) (s .args .e) (length (s .args .s .now)) (p .1) (c .if1 .left) (p .4) (p .5)
-
-few-at : (t : ℕ) (s : holds-from-lts.Start (callees t) (holds-from-at t) holds-from.Post) → size (first-of t s) < 2048
-few-at t s = few-nodes (s .args .grain) (edgeAt (s .args .places .now) (s .args .e))
+split-at t c = let s = c .before in split (s .args .grain) (s .args .places .now) (s .args .count) (s .args .e) (length (s .args .s .now)) (s .pre .1) (c .if1 .left)
 
 told-at : (t : ℕ) (c : holds-from-lts.After-check-edge (callees t) (holds-from-at t) holds-from.Post) → let s = c .before .before in Told (c .check-edge .result) (size (first-of t s)) (Begins (first-of t s) (s .args .s .now))
 told-at t c = let s = c .before .before in rw (toZ-ofZ (s .fits .grain)) at (c .check-edge .ensures)
@@ -64,11 +57,7 @@ holds-from-returns : (t : ℕ) → holds-from-lts.Need-returns (callees t) (hold
 holds-from-returns t c = let s = c .before in rw (end-is (s .args .grain) (s .args .places .now) (s .args .count) (s .args .e) (c .if1 .taken))
 
 holds-from-check-edge-requires : (t : ℕ) → holds-from-lts.Need-check-edge-requires (callees t) (holds-from-at t) holds-from.Post
-holds-from-check-edge-requires t c κs =
-    let s = c .before in
-    let p = s .pre .1 in
-    let d = split-at t c in
-    rw (toZ-ofZ (s .fits .grain)) (p .0, omega (arith, p .1, p .2, c .if1 .left), p .3, d .first-ok, omega (arith, d .room))
+holds-from-check-edge-requires t c κs = rw (toZ-ofZ (c .before .fits .grain)) (split-at t c .first)
 
 holds-from-returns-2 : (t : ℕ) → holds-from-lts.Need-returns-2 (callees t) (holds-from-at t) holds-from.Post
 holds-from-returns-2 t c =
@@ -77,10 +66,10 @@ holds-from-returns-2 t c =
     (λ b. refused (c .before .check-edge .result) (size (first-of t s)) (Begins (first-of t s) (s .args .s .now)) (told-at t (c .before)) (size-pos (first-of t s)) (c .if2 .taken) (all-first (first-of t s) (others-of t s) (s .args .s .now) b))
 
 holds-from-mul-at : (t : ℕ) → holds-from-lts.Need-mul-at (callees t) (holds-from-at t) holds-from.Post
-holds-from-mul-at t c = omega (arith, holds-is t c .0, few-at t (c .before .before .before))
+holds-from-mul-at t c = omega (arith, holds-is t c .0, split-at t (c .before .before) .first-few)
 
 holds-from-mul-holds-from : (t : ℕ) → holds-from-lts.Need-mul-holds-from (callees t) (holds-from-at t) holds-from.Post
-holds-from-mul-holds-from t c = omega (arith, holds-is t c .0, few-at t (c .before .before .before))
+holds-from-mul-holds-from t c = omega (arith, holds-is t c .0, split-at t (c .before .before) .first-few)
 
 holds-from-sub-holds-from : (t : ℕ) → holds-from-lts.Need-sub-holds-from (callees t) (holds-from-at t) holds-from.Post
 holds-from-sub-holds-from t c = omega (arith, holds-is t c .0, split-at t (c .before .before) .room)
@@ -92,18 +81,16 @@ holds-from-part-holds-from-end : (t : ℕ) → holds-from-lts.Need-part-holds-fr
 holds-from-part-holds-from-end t c = omega arith
 
 holds-from-add-holds-from : (t : ℕ) → holds-from-lts.Need-add-holds-from (callees t) (holds-from-at t) holds-from.Post
-holds-from-add-holds-from t c = let p = c .before .before .before .before .pre .1 in omega (arith, p .1, p .2)
+holds-from-add-holds-from t c = let p = c .before .before .before .before .pre .1 in omega (arith, p .from, p .few)
 
 holds-from-holds-from-requires : (t : ℕ) → holds-from-lts.Need-holds-from-requires (callees t) (holds-from-at t) holds-from.Post
 holds-from-holds-from-requires t c κs =
     let g = c .before in
     let q = g .before .before in
     let s = q .before in
-    let p = s .pre .1 in
-    let d = split-at t q in
     rw (toZ-ofZ (s .fits .grain)) (
-      omega (arith, s .pre .0, p .1, q .if1 .left),
-      (p .0, omega (arith, p .1, q .if1 .left), p .2, p .3, d .others-ok, rw (tail (width * g .before .check-edge .result) (s .args .s .now)) (simp length-drop (omega (arith, holds-is t g .0, d .room)))),
+      omega (arith, s .pre .0, s .pre .1 .from, q .if1 .left),
+      split-at t q .others _ (rw (tail (width * g .before .check-edge .result) (s .args .s .now)) (simp length-drop (omega (arith, holds-is t g .0)))),
     )
 
 holds-from-returns-3 : (t : ℕ) → holds-from-lts.Need-returns-3 (callees t) (holds-from-at t) holds-from.Post

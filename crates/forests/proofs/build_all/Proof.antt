@@ -1,8 +1,7 @@
 -- The walk from edge 0 is the job's. Assumes nothing.
-use native.Mathlib.Omega.{arith}
 use borrow.Author.Needs.{needs}
 use Rattle.forests.specs.Walk.{from-first}
-use Rattle.forests.proofs.Steps.{wide-fits, wide-is}
+use Rattle.forests.proofs.Steps.{from-start, wide-fits, wide-is}
 use Rattle.forests.proofs.build_all.Statement.{statement}
 use Rattle.forests.proofs.build_all.Tie as tie
 
@@ -13,7 +12,7 @@ build-from-requires : tie.Need-build-from-requires
 build-from-requires c κs =
     let s = c .before in
     let p = s .pre in
-    rw (wide-is (s .args .grain) (s .fits .grain), from-first (s .args .grain) (s .args .places .now) (s .args .count)) (p .0, omega arith, p .1, p .2 .grain-size, p .3, p .4)
+    rw (wide-is (s .args .grain) (s .fits .grain)) (from-start (s .args .grain) (s .args .places .now) (s .args .count) _ (p .0) (p .1) (p .2 .grain-size) (p .3) (p .4))
 
 same-length : tie.Need-same-length
 same-length c = search needs

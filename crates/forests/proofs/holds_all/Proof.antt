@@ -1,9 +1,8 @@
 -- The walk from edge 0 is the job's, and a list that begins with its trees is one that the model's test passes. Assumes nothing.
-use native.Mathlib.Omega.{arith}
 use Rattle.model.specs.Jobs.{edgesFrom}
 use Rattle.model.specs.Trees.{trees}
 use Rattle.forests.specs.Walk.{from-first}
-use Rattle.forests.proofs.Steps.{wide-fits, wide-is, says-begins}
+use Rattle.forests.proofs.Steps.{from-start, wide-fits, wide-is, says-begins}
 use Rattle.forests.proofs.holds_all.Statement.{statement}
 use Rattle.forests.proofs.holds_all.Tie as tie
 
@@ -13,7 +12,7 @@ cast-holds-from c = wide-fits (c .args .grain) (c .fits .grain)
 holds-from-requires : tie.Need-holds-from-requires
 holds-from-requires c κs =
     let p = c .pre in
-    rw (wide-is (c .args .grain) (c .fits .grain), from-first (c .args .grain) (c .args .places .now) (c .args .count)) (p .0, omega arith, p .1, p .2 .grain-size, p .3, p .4)
+    rw (wide-is (c .args .grain) (c .fits .grain)) (from-start (c .args .grain) (c .args .places .now) (c .args .count) _ (p .0) (p .1) (p .2 .grain-size) (p .3) (p .4))
 
 returns : tie.Need-returns
 returns c =
