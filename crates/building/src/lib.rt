@@ -3,16 +3,13 @@ use arithmetic::WIDTH;
 use powers::Power;
 use strips::Extent;
 ghost use mathlib.Core.Path.{_≡_};
-ghost use mathlib.Core.Bool.{false};
 ghost use mathlib.Core.List.{_++_};
 ghost use Prim.Native.Nat.{_*_, _≤_, _<_};
 ghost use lib.ListN.{length, drop};
-ghost use Rattle.model.specs.Trees.{isLong};
 ghost use Rattle.model.specs.Store.{width, size, numbers, flatten};
 ghost use Rattle.ranges.specs.Sizes.{SideSized};
-ghost use Rattle.ranges.specs.PowerForm.{FormSized};
 ghost use Rattle.subtrees.specs.Subtrees.{subtree};
-ghost use Rattle.subtrees.specs.Halving.{Halvable};
+ghost use Rattle.subtrees.specs.Halving.{Walkable};
 ghost use Rattle.powers.specs.Structs.{form};
 ghost use Rattle.strips.specs.Structs.{side, stripOf};
 
@@ -41,7 +38,7 @@ pub fn build(
     m: usize,
     limit: i64,
 ) -> usize
-    requires ready { ⌜ FormSized (form cx) × FormSized (form cy) × Halvable left n m × (isLong (subtree limit (form cx) (form cy) left n m) ≡ false) × (width * size (subtree limit (form cx) (form cy) left n m) ≤ length (now s)) ⌝ }
+    requires ready { ⌜ Walkable limit (form cx) (form cy) left n m (length (now s)) ⌝ }
     ensures nodes { λ r. ⌜ r ≡ size (subtree limit (form cx) (form cy) left n m) ⌝ }
     ensures written { λ _. ⌜ now (s .exit) ≡ flatten (subtree limit (form cx) (form cy) left n m) ++ drop (width * size (subtree limit (form cx) (form cy) left n m)) (now (s .entry)) ⌝ }
 {

@@ -8,13 +8,11 @@ ghost use mathlib.Core.Bool.{false};
 ghost use Prim.Native.Nat.{_*_, _≤_, _<_};
 ghost use lib.IntN.{pos};
 ghost use lib.ListN.{length, getD};
-ghost use Rattle.model.specs.Trees.{isLong};
 ghost use Rattle.model.specs.Store.{width, size};
 ghost use Rattle.ranges.specs.Sizes.{SideSized};
-ghost use Rattle.ranges.specs.PowerForm.{FormSized};
 ghost use Rattle.subtrees.specs.Preorder.{countPlace, HasSide, HasStrip, Begins};
 ghost use Rattle.subtrees.specs.Subtrees.{subtree};
-ghost use Rattle.subtrees.specs.Halving.{Halvable};
+ghost use Rattle.subtrees.specs.Halving.{Walkable};
 ghost use Rattle.powers.specs.Structs.{form};
 ghost use Rattle.strips.specs.Structs.{side, stripOf};
 ghost use Rattle.checking.specs.Answers.{Unless, Told};
@@ -71,7 +69,7 @@ pub fn begins_with(
     m: usize,
     limit: i64,
 ) -> usize
-    requires ready { ⌜ FormSized (form cx) × FormSized (form cy) × Halvable left n m × (isLong (subtree limit (form cx) (form cy) left n m) ≡ false) × (width * size (subtree limit (form cx) (form cy) left n m) ≤ length (now s)) ⌝ }
+    requires ready { ⌜ Walkable limit (form cx) (form cy) left n m (length (now s)) ⌝ }
     ensures told { λ r. ⌜ Told r (size (subtree limit (form cx) (form cy) left n m)) (Begins (subtree limit (form cx) (form cy) left n m) (now (s .entry))) ⌝ }
 {
     let p = strips::piece_of(cx, cy, n, m, limit);

@@ -9,8 +9,8 @@ use lib.IntN.{ℤ}
 use lib.Pow.{pow-pos}
 use Rattle.model.specs.Strips.{Strip}
 use Rattle.model.specs.Trees.{Tree, leaf, long, node, isLong}
-use Rattle.model.specs.Store.{size}
-use Rattle.ranges.specs.PowerForm.{Form}
+use Rattle.model.specs.Store.{width, size}
+use Rattle.ranges.specs.PowerForm.{Form, FormSized}
 use Rattle.subtrees.specs.Preorder.{top}
 use Rattle.subtrees.specs.Subtrees.{stripBy, shortBy, subtree}
 
@@ -120,3 +120,11 @@ forked limit fx fy left n m e h =
     let r = subtree limit fx fy (left - 1) (2 * n) (2 * m + 1) in
     let k = sym (ap isLong i) ∙ h in
     record { more = z; is = i; left-ok = or-left (isLong l) (isLong r) k; right-ok = or-right (isLong l) (isLong r) k }
+
+-- ---- a piece whose subtree is written or compared: numbers in range, no end that is long, and room for it among k numbers
+pub record Walkable (limit : ℤ) (fx fy : Form) (left n m k : ℕ) : Type 0 where
+  pub x-form : FormSized fx
+  pub y-form : FormSized fy
+  pub halvable : Halvable left n m
+  pub short : isLong (subtree limit fx fy left n m) ≡ false
+  pub fits : width * size (subtree limit fx fy left n m) ≤ k

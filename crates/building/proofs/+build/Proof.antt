@@ -54,10 +54,10 @@ short-is : (t : ℕ) (c : build-lts.After-piece-of (callees t) (build-at t) buil
 short-is t c = rw (toZ-ofZ (c .before .fits .limit)) at (c .piece-of .ensures .1)
 
 x-sized : (t : ℕ) (c : build-lts.After-piece-of (callees t) (build-at t) build.Post) → SideSized (side (c .piece-of .result .x))
-x-sized t c = let s = c .before in let p = s .pre .1 in subst SideSized (sym (c .piece-of .ensures .0 .0)) (by-sized (form (s .args .cx)) (s .args .n) (s .args .m) (p .0) (p .2 .two) (omega (arith, p .2 .high)))
+x-sized t c = let s = c .before in let p = s .pre .1 in subst SideSized (sym (c .piece-of .ensures .0 .0)) (by-sized (form (s .args .cx)) (s .args .n) (s .args .m) (p .x-form) (p .halvable .two) (omega (arith, p .halvable .high)))
 
 y-sized : (t : ℕ) (c : build-lts.After-piece-of (callees t) (build-at t) build.Post) → SideSized (side (c .piece-of .result .y))
-y-sized t c = let s = c .before in let p = s .pre .1 in subst SideSized (sym (c .piece-of .ensures .0 .1)) (by-sized (form (s .args .cy)) (s .args .n) (s .args .m) (p .1) (p .2 .two) (omega (arith, p .2 .high)))
+y-sized t c = let s = c .before in let p = s .pre .1 in subst SideSized (sym (c .piece-of .ensures .0 .1)) (by-sized (form (s .args .cy)) (s .args .n) (s .args .m) (p .y-form) (p .halvable .two) (omega (arith, p .halvable .high)))
 
 strip-is : (t : ℕ) (c : build-lts.After-piece-of (callees t) (build-at t) build.Post) → let s = c .before in stripOf (c .piece-of .result .x) (c .piece-of .result .y) ≡ stripBy (form (s .args .cx)) (form (s .args .cy)) (s .args .n) (s .args .m)
 unfolding stripBy
@@ -67,11 +67,11 @@ fork-at : (t : ℕ) (c : build-lts.Else1 (callees t) (build-at t) build.Post) �
 fork-at t c =
     let a = c .before .before .before in
     let s = a .before in
-    forked (s .args .limit) (form (s .args .cx)) (form (s .args .cy)) (s .args .left) (s .args .n) (s .args .m) (sym (short-is t a) ∙ c .if1 .left) (s .pre .1 .3)
+    forked (s .args .limit) (form (s .args .cx)) (form (s .args .cy)) (s .args .left) (s .args .n) (s .args .m) (sym (short-is t a) ∙ c .if1 .left) (s .pre .1 .short)
 
 -- the room that is left
 room : (t : ℕ) (c : build-lts.Else1 (callees t) (build-at t) build.Post) → width + width * size (left-of t (c .before .before .before .before)) + width * size (right-of t (c .before .before .before .before)) ≤ length (c .before .before .before .before .args .s .now)
-room t c = omega (arith, ap size (fork-at t c .is), c .before .before .before .before .pre .1 .4)
+room t c = omega (arith, ap size (fork-at t c .is), c .before .before .before .before .pre .1 .fits)
 
 left-is : (t : ℕ) (c : build-lts.After-build (callees t) (build-at t) build.Post) → c .build .result ≡ size (left-of t (c .before .before .before .before .before .before))
 left-is t c = let s = c .before .before .before .before .before .before in (rw (toZ-ofZ (s .fits .limit)) at (c .build .ensures)) .0
@@ -84,7 +84,7 @@ few-at t c =
     let b = c .before .before .before .before in
     let e = b .before .before in
     let s = e .before .before .before .before in
-    let p = s .pre .1 .2 in
+    let p = s .pre .1 .halvable in
     let z = fork-at t e .more in
     omega (
       arith,
@@ -95,13 +95,13 @@ few-at t c =
     )
 
 build-piece-of-requires : (t : ℕ) → build-lts.Need-piece-of-requires (callees t) (build-at t) build.Post
-build-piece-of-requires t c κs = let p = c .pre .1 in (p .0, p .1, p .2 .two, n-in (p .2), omega (arith, p .2 .high))
+build-piece-of-requires t c κs = let p = c .pre .1 in (p .x-form, p .y-form, p .halvable .two, n-in (p .halvable), omega (arith, p .halvable .high))
 
 build-put-requires : (t : ℕ) → build-lts.Need-put-requires (callees t) (build-at t) build.Post
 build-put-requires t c κs =
     let a = c .before .before .before .before in
     let s = a .before in
-    (omega (arith, size-pos (whole-of t s), s .pre .1 .4), x-sized t a, y-sized t a, omega arith)
+    (omega (arith, size-pos (whole-of t s), s .pre .1 .fits), x-sized t a, y-sized t a, omega arith)
 
 build-same-length : (t : ℕ) → build-lts.Need-same-length (callees t) (build-at t) build.Post
 build-same-length t c = search needs
@@ -126,13 +126,13 @@ build-sub-build-2 : (t : ℕ) → build-lts.Need-sub-build-2 (callees t) (build-
 build-sub-build-2 t c = let z = fork-at t (c .before) .more in omega (arith, z)
 
 build-mul-build : (t : ℕ) → build-lts.Need-mul-build (callees t) (build-at t) build.Post
-build-mul-build t c = omega (arith, n-in (c .before .before .before .before .before .pre .1 .2))
+build-mul-build t c = omega (arith, n-in (c .before .before .before .before .before .pre .1 .halvable))
 
 build-mul-build-2 : (t : ℕ) → build-lts.Need-mul-build-2 (callees t) (build-at t) build.Post
-build-mul-build-2 t c = omega (arith, n-in (c .before .before .before .before .before .pre .1 .2), c .before .before .before .before .before .pre .1 .2 .high)
+build-mul-build-2 t c = omega (arith, n-in (c .before .before .before .before .before .pre .1 .halvable), c .before .before .before .before .before .pre .1 .halvable .high)
 
 build-sub-build-3 : (t : ℕ) → build-lts.Need-sub-build-3 (callees t) (build-at t) build.Post
-build-sub-build-3 t c = omega (arith, c .before .before .before .before .before .pre .1 .2 .low)
+build-sub-build-3 t c = omega (arith, c .before .before .before .before .before .pre .1 .halvable .low)
 
 build-build-requires : (t : ℕ) → build-lts.Need-build-requires (callees t) (build-at t) build.Post
 build-build-requires t c κs =
@@ -141,7 +141,7 @@ build-build-requires t c κs =
     let p = s .pre .1 in
     let f = fork-at t e in
     rw (toZ-ofZ (s .fits .limit))
-    (omega (arith, s .pre .0, f .more), (p .0, p .1, left-half (p .2) (f .more), f .left-ok, rw (tail-mid width (s .args .s .now)) (simp length-drop (omega (arith, room t e)))))
+    (omega (arith, s .pre .0, f .more), record { x-form = p .x-form; y-form = p .y-form; halvable = left-half (p .halvable) (f .more); short = f .left-ok; fits = rw (tail-mid width (s .args .s .now)) (simp length-drop (omega (arith, room t e))) })
 
 build-mul-mid : (t : ℕ) → build-lts.Need-mul-mid (callees t) (build-at t) build.Post
 build-mul-mid t c = omega (arith, room t (c .before .before .before), left-is t (c .before))
@@ -165,13 +165,13 @@ build-sub-build-5 : (t : ℕ) → build-lts.Need-sub-build-5 (callees t) (build-
 build-sub-build-5 t c = let z = fork-at t (c .before .before .before .before) .more in omega (arith, z)
 
 build-mul-build-4 : (t : ℕ) → build-lts.Need-mul-build-4 (callees t) (build-at t) build.Post
-build-mul-build-4 t c = omega (arith, n-in (c .before .before .before .before .before .before .before .before .pre .1 .2))
+build-mul-build-4 t c = omega (arith, n-in (c .before .before .before .before .before .before .before .before .pre .1 .halvable))
 
 build-mul-build-5 : (t : ℕ) → build-lts.Need-mul-build-5 (callees t) (build-at t) build.Post
-build-mul-build-5 t c = omega (arith, n-in (c .before .before .before .before .before .before .before .before .pre .1 .2), c .before .before .before .before .before .before .before .before .pre .1 .2 .high)
+build-mul-build-5 t c = omega (arith, n-in (c .before .before .before .before .before .before .before .before .pre .1 .halvable), c .before .before .before .before .before .before .before .before .pre .1 .halvable .high)
 
 build-add-build : (t : ℕ) → build-lts.Need-add-build (callees t) (build-at t) build.Post
-build-add-build t c = omega (arith, n-in (c .before .before .before .before .before .before .before .before .pre .1 .2), c .before .before .before .before .before .before .before .before .pre .1 .2 .high)
+build-add-build t c = omega (arith, n-in (c .before .before .before .before .before .before .before .before .pre .1 .halvable), c .before .before .before .before .before .before .before .before .pre .1 .halvable .high)
 
 build-build-requires-2 : (t : ℕ) → build-lts.Need-build-requires-2 (callees t) (build-at t) build.Post
 build-build-requires-2 t c κs =
@@ -181,7 +181,7 @@ build-build-requires-2 t c κs =
     let p = s .pre .1 in
     let f = fork-at t e in
     rw (toZ-ofZ (s .fits .limit))
-    (omega (arith, s .pre .0, f .more), (p .0, p .1, right-half (p .2) (f .more), f .right-ok, rw (tail-mid (width + width * b .build .result) _) (simp length-drop (omega (arith, room t e, left-is t b, c .before .s2 .given)))))
+    (omega (arith, s .pre .0, f .more), record { x-form = p .x-form; y-form = p .y-form; halvable = right-half (p .halvable) (f .more); short = f .right-ok; fits = rw (tail-mid (width + width * b .build .result) _) (simp length-drop (omega (arith, room t e, left-is t b, c .before .s2 .given))) })
 
 build-add-nodes : (t : ℕ) → build-lts.Need-add-nodes (callees t) (build-at t) build.Post
 build-add-nodes t c = omega (arith, few-at t c)

@@ -51,7 +51,7 @@ abbrev right-of : (t : ℕ) → begins-with-lts.Start (callees t) (begins-with-a
 right-of t s = subtree (s .args .limit) (form (s .args .cx)) (form (s .args .cy)) (s .args .left - 1) (2 * s .args .n) (2 * s .args .m + 1)
 
 seven : (t : ℕ) (s : begins-with-lts.Start (callees t) (begins-with-at t) begins-with.Post) → width ≤ length (s .args .s .now)
-seven t s = omega (arith, size-pos (whole-of t s), s .pre .1 .4)
+seven t s = omega (arith, size-pos (whole-of t s), s .pre .1 .fits)
 
 short-is : (t : ℕ) (c : begins-with-lts.After-piece-of (callees t) (begins-with-at t) begins-with.Post) → let s = c .before in c .piece-of .result .short ≡ shortBy (s .args .limit) (form (s .args .cx)) (form (s .args .cy)) (s .args .n) (s .args .m)
 short-is t c = rw (toZ-ofZ (c .before .fits .limit)) at (c .piece-of .ensures .1)
@@ -69,10 +69,10 @@ fork-at : (t : ℕ) (c : begins-with-lts.Else2 (callees t) (begins-with-at t) be
 fork-at t c =
     let a = c .before .before .before .before .before in
     let s = a .before in
-    forked (s .args .limit) (form (s .args .cx)) (form (s .args .cy)) (s .args .left) (s .args .n) (s .args .m) (sym (short-is t a) ∙ c .if2 .left) (s .pre .1 .3)
+    forked (s .args .limit) (form (s .args .cx)) (form (s .args .cy)) (s .args .left) (s .args .n) (s .args .m) (sym (short-is t a) ∙ c .if2 .left) (s .pre .1 .short)
 
 room : (t : ℕ) (c : begins-with-lts.Else2 (callees t) (begins-with-at t) begins-with.Post) → let s = c .before .before .before .before .before .before in width + width * size (left-of t s) + width * size (right-of t s) ≤ length (s .args .s .now)
-room t c = let s = c .before .before .before .before .before .before in omega (arith, ap size (fork-at t c .is), s .pre .1 .4)
+room t c = let s = c .before .before .before .before .before .before in omega (arith, ap size (fork-at t c .is), s .pre .1 .fits)
 
 left-told : (t : ℕ) (c : begins-with-lts.After-begins-with (callees t) (begins-with-at t) begins-with.Post) → let s = c .before .before .before .before .before .before .before .before in Told (c .begins-with .result) (size (left-of t s)) (Begins (left-of t s) (drop width (s .args .s .now)))
 left-told t c =
@@ -100,7 +100,7 @@ few-at t c =
     let b = c .before .before .before in
     let e = b .before .before .before in
     let s = e .before .before .before .before .before .before in
-    let p = s .pre .1 .2 in
+    let p = s .pre .1 .halvable in
     let z = fork-at t e .more in
     omega (
       arith,
@@ -111,17 +111,17 @@ few-at t c =
     )
 
 begins-with-piece-of-requires : (t : ℕ) → begins-with-lts.Need-piece-of-requires (callees t) (begins-with-at t) begins-with.Post
-begins-with-piece-of-requires t c κs = let p = c .pre .1 in (p .0, p .1, p .2 .two, n-in (p .2), omega (arith, p .2 .high))
+begins-with-piece-of-requires t c κs = let p = c .pre .1 in (p .x-form, p .y-form, p .halvable .two, n-in (p .halvable), omega (arith, p .halvable .high))
 
 begins-with-differs-strip-requires : (t : ℕ) → begins-with-lts.Need-differs-strip-requires (callees t) (begins-with-at t) begins-with.Post
 begins-with-differs-strip-requires t c κs =
     let a = c .before .before in
     let s = a .before in
     let p = s .pre .1 in
-    let k = n-in (p .2) in (
+    let k = n-in (p .halvable) in (
       seven t s,
-      subst SideSized (sym (a .piece-of .ensures .0 .0)) (by-sized (form (s .args .cx)) (s .args .n) (s .args .m) (p .0) (p .2 .two) (omega (arith, p .2 .high))),
-      subst SideSized (sym (a .piece-of .ensures .0 .1)) (by-sized (form (s .args .cy)) (s .args .n) (s .args .m) (p .1) (p .2 .two) (omega (arith, p .2 .high))),
+      subst SideSized (sym (a .piece-of .ensures .0 .0)) (by-sized (form (s .args .cx)) (s .args .n) (s .args .m) (p .x-form) (p .halvable .two) (omega (arith, p .halvable .high))),
+      subst SideSized (sym (a .piece-of .ensures .0 .1)) (by-sized (form (s .args .cy)) (s .args .n) (s .args .m) (p .y-form) (p .halvable .two) (omega (arith, p .halvable .high))),
     )
 
 begins-with-returns : (t : ℕ) → begins-with-lts.Need-returns (callees t) (begins-with-at t) begins-with.Post
@@ -158,13 +158,13 @@ begins-with-sub-begins-with-2 : (t : ℕ) → begins-with-lts.Need-sub-begins-wi
 begins-with-sub-begins-with-2 t c = let z = fork-at t (c .before) .more in omega (arith, z)
 
 begins-with-mul-begins-with : (t : ℕ) → begins-with-lts.Need-mul-begins-with (callees t) (begins-with-at t) begins-with.Post
-begins-with-mul-begins-with t c = omega (arith, n-in (c .before .before .before .before .before .before .before .pre .1 .2))
+begins-with-mul-begins-with t c = omega (arith, n-in (c .before .before .before .before .before .before .before .pre .1 .halvable))
 
 begins-with-mul-begins-with-2 : (t : ℕ) → begins-with-lts.Need-mul-begins-with-2 (callees t) (begins-with-at t) begins-with.Post
-begins-with-mul-begins-with-2 t c = omega (arith, n-in (c .before .before .before .before .before .before .before .pre .1 .2), c .before .before .before .before .before .before .before .pre .1 .2 .high)
+begins-with-mul-begins-with-2 t c = omega (arith, n-in (c .before .before .before .before .before .before .before .pre .1 .halvable), c .before .before .before .before .before .before .before .pre .1 .halvable .high)
 
 begins-with-sub-begins-with-3 : (t : ℕ) → begins-with-lts.Need-sub-begins-with-3 (callees t) (begins-with-at t) begins-with.Post
-begins-with-sub-begins-with-3 t c = omega (arith, c .before .before .before .before .before .before .before .pre .1 .2 .low)
+begins-with-sub-begins-with-3 t c = omega (arith, c .before .before .before .before .before .before .before .pre .1 .halvable .low)
 
 begins-with-begins-with-requires : (t : ℕ) → begins-with-lts.Need-begins-with-requires (callees t) (begins-with-at t) begins-with.Post
 begins-with-begins-with-requires t c κs =
@@ -173,7 +173,7 @@ begins-with-begins-with-requires t c κs =
     let p = s .pre .1 in
     let f = fork-at t e in
     rw (toZ-ofZ (s .fits .limit))
-    (omega (arith, s .pre .0, f .more), (p .0, p .1, left-half (p .2) (f .more), f .left-ok, rw (tail width (s .args .s .now)) (simp length-drop (omega (arith, room t e)))))
+    (omega (arith, s .pre .0, f .more), record { x-form = p .x-form; y-form = p .y-form; halvable = left-half (p .halvable) (f .more); short = f .left-ok; fits = rw (tail width (s .args .s .now)) (simp length-drop (omega (arith, room t e))) })
 
 begins-with-returns-4 : (t : ℕ) → begins-with-lts.Need-returns-4 (callees t) (begins-with-at t) begins-with.Post
 begins-with-returns-4 t c =
@@ -203,13 +203,13 @@ begins-with-sub-begins-with-5 : (t : ℕ) → begins-with-lts.Need-sub-begins-wi
 begins-with-sub-begins-with-5 t c = let z = fork-at t (c .before .before .before .before) .more in omega (arith, z)
 
 begins-with-mul-begins-with-4 : (t : ℕ) → begins-with-lts.Need-mul-begins-with-4 (callees t) (begins-with-at t) begins-with.Post
-begins-with-mul-begins-with-4 t c = omega (arith, n-in (c .before .before .before .before .before .before .before .before .before .before .pre .1 .2))
+begins-with-mul-begins-with-4 t c = omega (arith, n-in (c .before .before .before .before .before .before .before .before .before .before .pre .1 .halvable))
 
 begins-with-mul-begins-with-5 : (t : ℕ) → begins-with-lts.Need-mul-begins-with-5 (callees t) (begins-with-at t) begins-with.Post
-begins-with-mul-begins-with-5 t c = omega (arith, n-in (c .before .before .before .before .before .before .before .before .before .before .pre .1 .2), c .before .before .before .before .before .before .before .before .before .before .pre .1 .2 .high)
+begins-with-mul-begins-with-5 t c = omega (arith, n-in (c .before .before .before .before .before .before .before .before .before .before .pre .1 .halvable), c .before .before .before .before .before .before .before .before .before .before .pre .1 .halvable .high)
 
 begins-with-add-begins-with : (t : ℕ) → begins-with-lts.Need-add-begins-with (callees t) (begins-with-at t) begins-with.Post
-begins-with-add-begins-with t c = omega (arith, n-in (c .before .before .before .before .before .before .before .before .before .before .pre .1 .2), c .before .before .before .before .before .before .before .before .before .before .pre .1 .2 .high)
+begins-with-add-begins-with t c = omega (arith, n-in (c .before .before .before .before .before .before .before .before .before .before .pre .1 .halvable), c .before .before .before .before .before .before .before .before .before .before .pre .1 .halvable .high)
 
 begins-with-begins-with-requires-2 : (t : ℕ) → begins-with-lts.Need-begins-with-requires-2 (callees t) (begins-with-at t) begins-with.Post
 begins-with-begins-with-requires-2 t c κs =
@@ -219,7 +219,7 @@ begins-with-begins-with-requires-2 t c κs =
     let p = s .pre .1 in
     let f = fork-at t e in
     rw (toZ-ofZ (s .fits .limit))
-    (omega (arith, s .pre .0, f .more), (p .0, p .1, right-half (p .2) (f .more), f .right-ok, rw (tail (width + width * b .before .begins-with .result) (s .args .s .now)) (simp length-drop (omega (arith, room t e, left-is t b .0)))))
+    (omega (arith, s .pre .0, f .more), record { x-form = p .x-form; y-form = p .y-form; halvable = right-half (p .halvable) (f .more); short = f .right-ok; fits = rw (tail (width + width * b .before .begins-with .result) (s .args .s .now)) (simp length-drop (omega (arith, room t e, left-is t b .0))) })
 
 begins-with-returns-5 : (t : ℕ) → begins-with-lts.Need-returns-5 (callees t) (begins-with-at t) begins-with.Post
 begins-with-returns-5 t c =

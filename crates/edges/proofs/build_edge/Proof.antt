@@ -26,7 +26,7 @@ build-requires : tie.Need-build-requires
 build-requires c κs =
     let w = walk (c .before) in
     let p = c .before .before .before .pre in
-    (w .x-sized, w .y-sized, whole-edge, ap isLong (w .is) ∙ p .short, omega (arith, ap size (w .is), p .fits))
+    record { x-form = w .x-sized; y-form = w .y-sized; halvable = whole-edge; short = ap isLong (w .is) ∙ p .short; fits = omega (arith, ap size (w .is), p .fits) }
 
 same-length : tie.Need-same-length
 same-length c = search needs

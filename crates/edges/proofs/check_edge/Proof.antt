@@ -26,7 +26,7 @@ begins-with-requires : tie.Need-begins-with-requires
 begins-with-requires c κs =
     let w = walk c in
     let p = c .before .before .pre in
-    (w .x-sized, w .y-sized, whole-edge, ap isLong (w .is) ∙ p .short, omega (arith, ap size (w .is), p .fits))
+    record { x-form = w .x-sized; y-form = w .y-sized; halvable = whole-edge; short = ap isLong (w .is) ∙ p .short; fits = omega (arith, ap size (w .is), p .fits) }
 
 returns : tie.Need-returns
 returns c = rw (walk (c .before) .is) at (c .begins-with .ensures)
