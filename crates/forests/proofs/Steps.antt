@@ -5,24 +5,23 @@ use mathlib.Core.List.{List, _∷_, _++_}
 use Prim.Native.Nat.{ℕ, _+_, _*_, _-_, _≤_, _<_}
 use native.Mathlib.Omega.{arith}
 use borrow.Rule.Slice.PartMut.{putMid, midOf}
-use lib.IntN.{ℤ, natAbs}
+use lib.IntN.{ℤ}
 use mir.Syntax.{w32, w64}
 use mir.Val.{SFits, toZ, ofZ}
 use mir.Facts.{toZ-ofZ, sfits-widen}
 use lib.ListN.{length, take, drop, length-append, length-drop}
 use lib.Seq.{take-at}
 use Rattle.sequences.specs.Parts.{tail-mid, tail-put}
-use Rattle.model.specs.Jobs.{edgeAt, edgesFrom}
-use Rattle.model.specs.Trees.{Tree, tree, trees, isLong, anyLong}
+use Rattle.model.specs.Jobs.{edgeAt}
+use Rattle.model.specs.Trees.{Tree, tree, isLong, anyLong}
 use Rattle.model.specs.Store.{width, size, sizes, flatten, flattenAll, begins}
-use Rattle.ranges.specs.Jobs.{Limits}
 use Rattle.subtrees.specs.Preorder.{Begins, BeginsAll, length-flatten, later, joined, all-yes, all-others}
 use Rattle.subtrees.specs.Begins.{begins-all, all-begins}
 use Rattle.subtrees.specs.Halving.{or-left, or-right}
 use Rattle.subtrees.specs.Counts.{count, lost}
 use Rattle.subtrees.specs.Sizes.{few-nodes}
 use Rattle.edges.specs.Ready.{Ready}
-use Rattle.forests.specs.Walk.{treesFrom, Ahead, from-first, more-is, Says}
+use Rattle.forests.specs.Walk.{treesFrom, Ahead, Whole, from-first, more-is, Says}
 
 -- ---- counting
 pub count-stop : (t : Tree) (us : List Tree) (s : ℕ) → count t ≡ 0 → 0 ≡ cond (anyLong (t ∷ us)) 0 (s + sizes (t ∷ us))
@@ -55,10 +54,10 @@ split g l n e m a k =
     }
 
 -- a job's trees are those from edge 0 on
-pub from-start : (g : ℤ) (l : List ℤ) (n m : ℕ) → Limits l → n ≤ 64 → natAbs g ≤ 100000 → anyLong (trees g (edgesFrom l n 0)) ≡ false → width * sizes (trees g (edgesFrom l n 0)) ≤ m → Ahead g l n 0 m
-from-start g l n m a b c d e =
+pub from-start : (g : ℤ) (l : List ℤ) (n m : ℕ) → Whole g l n m → Ahead g l n 0 m
+from-start g l n m w =
     let i = from-first g l n in
-    record { limits = a; from = omega arith; few = b; grain-size = c; short = ap anyLong i ∙ d; fits = omega (arith, ap sizes i) }
+    record { limits = w .limits; from = omega arith; few = w .few; grain-size = w .grain-in .grain-size; short = ap anyLong i ∙ w .short; fits = omega (arith, ap sizes i, w .fits) }
 
 -- ---- building
 pub length-built : (s u : List ℤ) (t : Tree) → u ≡ flatten t ++ drop (width * size t) s → width * size t ≤ length s → length u ≡ length s

@@ -8,7 +8,7 @@ use lib.IntN.{ℤ, natAbs}
 use Rattle.model.specs.Jobs.{edgeAt, edgesFrom}
 use Rattle.model.specs.Trees.{Tree, tree, trees, anyLong}
 use Rattle.model.specs.Store.{width, sizes}
-use Rattle.ranges.specs.Jobs.{Limits}
+use Rattle.ranges.specs.Jobs.{Limits, GrainSized}
 
 -- those of edges e to n − 1
 unfoldable pub treesFrom : ℤ → List ℤ → ℕ → ℕ → List Tree
@@ -22,6 +22,14 @@ pub record Ahead (g : ℤ) (l : List ℤ) (n e m : ℕ) : Type 0 where
   pub grain-size : natAbs g ≤ 100000
   pub short : anyLong (treesFrom g l n e) ≡ false
   pub fits : width * sizes (treesFrom g l n e) ≤ m
+
+-- and of all n edges
+pub record Whole (g : ℤ) (l : List ℤ) (n m : ℕ) : Type 0 where
+  pub limits : Limits l
+  pub few : n ≤ 64
+  pub grain-in : GrainSized g
+  pub short : anyLong (trees g (edgesFrom l n 0)) ≡ false
+  pub fits : width * sizes (trees g (edgesFrom l n 0)) ≤ m
 
 -- true where P holds, and false where it fails
 abbrev pub Says : Bool → Type 0 → Type 0

@@ -11,7 +11,7 @@ ghost use Rattle.model.specs.Trees.{trees, anyLong};
 ghost use Rattle.model.specs.Store.{width, sizes, flattenAll, begins};
 ghost use Rattle.ranges.specs.Jobs.{Limits, GrainSized};
 ghost use Rattle.subtrees.specs.Preorder.{BeginsAll};
-ghost use Rattle.forests.specs.Walk.{treesFrom, Ahead, Says};
+ghost use Rattle.forests.specs.Walk.{treesFrom, Ahead, Whole, Says};
 
 // ---- from edge e on
 
@@ -71,7 +71,7 @@ pub fn count_nodes(places: &[i32; 512], count: usize, grain: i32) -> usize
 
 // writes a job's trees at the front of the store
 pub fn build_all(store: &mut [i32], places: &[i32; 512], count: usize, grain: i32)
-    requires ready { ⌜ Limits (now places) × (count ≤ 64) × GrainSized grain × (anyLong (trees grain (edgesFrom (now places) count 0)) ≡ false) × (width * sizes (trees grain (edgesFrom (now places) count 0)) ≤ length (now store)) ⌝ }
+    requires ready { ⌜ Whole grain (now places) count (length (now store)) ⌝ }
     ensures written { λ _. ⌜ now (store .exit) ≡ flattenAll (trees grain (edgesFrom (now (places .entry)) count 0)) ++ drop (width * sizes (trees grain (edgesFrom (now (places .entry)) count 0))) (now (store .entry)) ⌝ }
 {
     build_from(store, places, 0, count, grain as i64);
@@ -79,7 +79,7 @@ pub fn build_all(store: &mut [i32], places: &[i32; 512], count: usize, grain: i3
 
 // does the store begin with a job's trees
 pub fn holds_all(store: &[i32], places: &[i32; 512], count: usize, grain: i32) -> bool
-    requires ready { ⌜ Limits (now places) × (count ≤ 64) × GrainSized grain × (anyLong (trees grain (edgesFrom (now places) count 0)) ≡ false) × (width * sizes (trees grain (edgesFrom (now places) count 0)) ≤ length (now store)) ⌝ }
+    requires ready { ⌜ Whole grain (now places) count (length (now store)) ⌝ }
     ensures begins { λ r. ⌜ r ≡ begins (now (store .entry)) (flattenAll (trees grain (edgesFrom (now (places .entry)) count 0))) ⌝ }
 {
     holds_from(store, places, 0, count, grain as i64)

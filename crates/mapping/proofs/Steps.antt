@@ -22,6 +22,7 @@ use Rattle.ranges.specs.Legal.{legal}
 use Rattle.ranges.specs.Jobs.{Limits, GrainSized, judge-sized, forest-sized}
 use Rattle.subtrees.specs.Preorder.{length-all, all-begun}
 use Rattle.subtrees.specs.Sizes.{forest-is, few-trees}
+use Rattle.forests.specs.Walk.{Whole}
 use Rattle.drawing.specs.Ready.{MapReady}
 use Rattle.drawing.proofs.Maps.{job-numbers}
 use Rattle.mapping.specs.Checks.{Passed, Refuses, map-refused, map-long, map-store, map-space, map-passed, none-long, some-short}
@@ -129,10 +130,10 @@ numbers-fit j k q z g n b =
 -- ---- the trees and the map
 module _ (j : Job) (numbers room nodes : ℕ) (h : Passed j numbers room nodes) where
   module _ (g : mag (j .grain) < 2 ^ 31) where
-    pub trees-ready : Limits (j .places) × (j .count ≤ 64) × GrainSized (toZ w32 (ofZ w32 (j .grain))) × (anyLong (trees (toZ w32 (ofZ w32 (j .grain))) (edgesFrom (j .places) (j .count) 0)) ≡ false) × (width * sizes (trees (toZ w32 (ofZ w32 (j .grain))) (edgesFrom (j .places) (j .count) 0)) ≤ numbers)
+    pub trees-ready : Whole (toZ w32 (ofZ w32 (j .grain))) (j .places) (j .count) numbers
     trees-ready =
         let s = judge-sized j (h .judged) in
-        rw (read32 (j .grain) g) (s .places-in, s .few-edges, s .grain-in-range, ap anyLong (sym (forest-is j)) ∙ h .short, omega (arith, h .store-fits, ap sizes (forest-is j)))
+        rw (read32 (j .grain) g) (record { limits = s .places-in; few = s .few-edges; grain-in = s .grain-in-range; short = ap anyLong (sym (forest-is j)) ∙ h .short; fits = omega (arith, h .store-fits, ap sizes (forest-is j)) })
 
     pub store-now : (old new : List ℤ) → new ≡ flattenAll (trees (toZ w32 (ofZ w32 (j .grain))) (edgesFrom (j .places) (j .count) 0)) ++ drop (width * sizes (trees (toZ w32 (ofZ w32 (j .grain))) (edgesFrom (j .places) (j .count) 0))) old → new ≡ over (storeOf j) old
     store-now old new e =

@@ -11,8 +11,7 @@ cast-build-from c = wide-fits (c .before .args .grain) (c .before .fits .grain)
 build-from-requires : tie.Need-build-from-requires
 build-from-requires c κs =
     let s = c .before in
-    let p = s .pre in
-    rw (wide-is (s .args .grain) (s .fits .grain)) (from-start (s .args .grain) (s .args .places .now) (s .args .count) _ (p .0) (p .1) (p .2 .grain-size) (p .3) (p .4))
+    rw (wide-is (s .args .grain) (s .fits .grain)) (from-start (s .args .grain) (s .args .places .now) (s .args .count) _ (s .pre))
 
 same-length : tie.Need-same-length
 same-length c = search needs

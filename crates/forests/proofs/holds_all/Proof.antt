@@ -11,8 +11,7 @@ cast-holds-from c = wide-fits (c .args .grain) (c .fits .grain)
 
 holds-from-requires : tie.Need-holds-from-requires
 holds-from-requires c κs =
-    let p = c .pre in
-    rw (wide-is (c .args .grain) (c .fits .grain)) (from-start (c .args .grain) (c .args .places .now) (c .args .count) _ (p .0) (p .1) (p .2 .grain-size) (p .3) (p .4))
+    rw (wide-is (c .args .grain) (c .fits .grain)) (from-start (c .args .grain) (c .args .places .now) (c .args .count) _ (c .pre))
 
 returns : tie.Need-returns
 returns c =

@@ -91,7 +91,7 @@ holds-all-requires c κs =
     let s = g .before .before in
     let p = good g .job in
     let i = nodes-are (s .args .job) (s .args .x) (s .args .y) (s .args .store .now) (good g) (n .count-nodes .result) (nodes-is n) (k .if2 .left) in
-    rw (grain-is g) (p .places-in, p .few-edges, p .grain-in-range, none-long (s .args .job) (s .args .x) (s .args .y) (s .args .store .now) (good g) (n .count-nodes .result) (nodes-is n) (k .if2 .left), omega (arith, i, r .if3 .left))
+    rw (grain-is g) (record { limits = p .places-in; few = p .few-edges; grain-in = p .grain-in-range; short = none-long (s .args .job) (s .args .x) (s .args .y) (s .args .store .now) (good g) (n .count-nodes .result) (nodes-is n) (k .if2 .left); fits = omega (arith, i, r .if3 .left) })
 
 refused-requires-4 : tie.Need-refused-requires-4
 refused-requires-4 c κs = search needs
