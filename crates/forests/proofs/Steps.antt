@@ -11,13 +11,13 @@ use mir.Val.{SFits, toZ, ofZ}
 use mir.Facts.{toZ-ofZ, sfits-widen}
 use lib.ListN.{length, take, drop, length-append, length-drop}
 use lib.Seq.{take-at}
+use Rattle.integers.specs.Tests.{or-false}
 use Rattle.sequences.specs.Parts.{tail-mid, tail-put}
 use Rattle.model.specs.Jobs.{edgeAt}
 use Rattle.model.specs.Trees.{Tree, tree, isLong, anyLong}
 use Rattle.model.specs.Store.{width, size, sizes, flatten, flattenAll, begins}
 use Rattle.subtrees.specs.Preorder.{Begins, BeginsAll, length-flatten, later, joined, all-yes, all-others}
 use Rattle.subtrees.specs.Begins.{begins-all, all-begins}
-use Rattle.subtrees.specs.Halving.{or-left, or-right}
 use Rattle.subtrees.specs.Counts.{count, lost}
 use Rattle.subtrees.specs.Sizes.{few-nodes}
 use Rattle.edges.specs.Ready.{Ready}
@@ -43,13 +43,13 @@ split g l n e m a k =
     let t = tree g (edgeAt l e) in
     let us = treesFrom g l n (e + 1) in
     let i = more-is g l n e (a .from) k in
-    let c = sym (ap anyLong i) ∙ a .short in
+    let c = or-false (isLong t) (anyLong us) (sym (ap anyLong i) ∙ a .short) in
     let r : width * size t + width * sizes us ≤ m = omega (arith, ap sizes i, a .fits) in
     record {
       is = i;
-      first = record { limits = a .limits; within = omega (arith, a .from, a .few, k); grain-size = a .grain-size; short = or-left (isLong t) (anyLong us) c; fits = omega (arith, r) };
+      first = record { limits = a .limits; within = omega (arith, a .from, a .few, k); grain-size = a .grain-size; short = c .0; fits = omega (arith, r) };
       first-few = few-nodes g (edgeAt l e);
-      others = λ h b. record { limits = a .limits; from = omega (arith, a .from, k); few = a .few; grain-size = a .grain-size; short = or-right (isLong t) (anyLong us) c; fits = omega (arith, r) };
+      others = λ h b. record { limits = a .limits; from = omega (arith, a .from, k); few = a .few; grain-size = a .grain-size; short = c .1; fits = omega (arith, r) };
       room = r;
     }
 

@@ -23,7 +23,7 @@ pub record Ahead (g : ℤ) (l : List ℤ) (n e m : ℕ) : Type 0 where
   pub short : anyLong (treesFrom g l n e) ≡ false
   pub fits : width * sizes (treesFrom g l n e) ≤ m
 
--- and of all n edges
+-- the same of all n edges, in the words of a job's trees
 pub record Whole (g : ℤ) (l : List ℤ) (n m : ℕ) : Type 0 where
   pub limits : Limits l
   pub few : n ≤ 64

@@ -1,12 +1,13 @@
 -- Walking a piece's subtree: what the code's tests say of it, its limits and those of its halves. Assumes nothing.
 use mathlib.Core.Path.{_≡_, refl, sym, ap, _∙_, subst}
-use mathlib.Core.Bool.{Bool, true, false, _||_}
+use mathlib.Core.Bool.{Bool, true, false}
 use Prim.Native.Nat.{ℕ, zero, suc, _+_, _*_, _-_, _^_, _≤_, _<_}
 use native.Mathlib.Nat.{pow-suc, le-refl, le-trans, mul-le-mul, lt-of-lt-of-le}
 use native.Mathlib.Omega.{arith}
 use lib.Dec.{T}
 use lib.IntN.{ℤ}
 use lib.Pow.{pow-pos}
+use Rattle.integers.specs.Tests.{or-false}
 use Rattle.model.specs.Strips.{Strip}
 use Rattle.model.specs.Trees.{Tree, leaf, long, node, isLong}
 use Rattle.model.specs.Store.{width, size}
@@ -95,14 +96,6 @@ module _ (limit : ℤ) (fx fy : Form) where
   few left n m p = lt-of-lt-of-le (size-below left n m) (le-trans (mul-le-mul (p .two) (le-refl (2 ^ left))) (p .deep))
 
 -- ---- a piece that is not short, and whose subtree is not long, has two halves
-pub or-left : (a b : Bool) → (a || b) ≡ false → a ≡ false
-or-left true b e = e
-or-left false b e = refl
-
-pub or-right : (a b : Bool) → (a || b) ≡ false → b ≡ false
-or-right true b e = cc
-or-right false b e = e
-
 not-long : (s : Strip) → isLong (long s) ≡ false → ⊥
 not-long s e = subst (λ (b : Bool). T b) e tt
 
@@ -119,7 +112,7 @@ forked limit fx fy left n m e h =
     let l = subtree limit fx fy (left - 1) (2 * n) (2 * m - 1) in
     let r = subtree limit fx fy (left - 1) (2 * n) (2 * m + 1) in
     let k = sym (ap isLong i) ∙ h in
-    record { more = z; is = i; left-ok = or-left (isLong l) (isLong r) k; right-ok = or-right (isLong l) (isLong r) k }
+    let s = or-false (isLong l) (isLong r) k in record { more = z; is = i; left-ok = s .0; right-ok = s .1 }
 
 -- ---- a piece whose subtree is written or compared: numbers in range, no end that is long, and room for it among k numbers
 pub record Walkable (limit : ℤ) (fx fy : Form) (left n m k : ℕ) : Type 0 where
