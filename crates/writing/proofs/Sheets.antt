@@ -1,7 +1,6 @@
 -- The needs of `put_sheet` and of `write`. Assumes nothing.
 use mathlib.Core.Path.{_≡_, refl, sym, ap, ap₂, _∙_, subst}
-use mathlib.Core.Bool.{Bool, true, false, cond}
-use mathlib.Core.List.{List, [], _++_}
+use mathlib.Core.List.{List, [], _∷_, _++_}
 use Prim.Native.Nat.{ℕ, zero, suc, _+_, _*_, _≤_, _<_}
 use native.Mathlib.Omega.{arith}
 use mir.Syntax.{w32}
@@ -12,15 +11,15 @@ use lib.IntN.{ℤ}
 use lib.ListN.{length, take, drop, take-append-drop}
 use borrow.Author.Tests.{le-leb, lt-leb}
 use Rattle.model.specs.declared.Job.{Job}
-use Rattle.model.specs.Refusals.{accepted}
-use Rattle.model.specs.Jobs.{counted, ranged, celled, judge}
+use Rattle.model.specs.Refusals.{Checks, check, space, accepted}
+use Rattle.model.specs.Jobs.{own, judge}
 use Rattle.model.specs.Forms.{writeForm}
 use Rattle.model.specs.Layouts.{writeLines}
 use Rattle.model.specs.Sheets.{grainForm, endForm, defaultGrain, stated, sheetOf}
 use Rattle.model.specs.Entries.{writeRefusal, write, writeLeaves}
 use Rattle.sheet_text.specs.Numbers.{Small}
 use Rattle.sheet_text.specs.Forms.{AllSmall, nil-small, cons-small}
-use Rattle.ranges.specs.Legal.{all-passed}
+use Rattle.ranges.specs.Refusals.{when-refused, when-passed, first-fails}
 use Rattle.sheet_text.specs.Jobs.{legal, placed-small}
 use Rattle.sheet_text.specs.Code.{headOf, headText, edgesText, codeText, sheet-as-code, room}
 use Rattle.printing.specs.Puts.{Put}
@@ -62,38 +61,35 @@ module _ (j : Job) (ok : judge j ≡ 0) where
   unfolding writeForm endForm
   end-line hs = refl
 
-  pub sheet-put : (a b c d f : List ℕ) (i k m n : ℕ) (hs : List ℤ) → Put a b 0 i (headText hs) → Put b c i k (writeLines grainForm (stated defaultGrain (toZ w32 (ofZ w32 (j .grain))))) → Put c d k m (edgesText (j .count) (j .places)) → Put d f m n (writeForm endForm hs) → hs ≡ headOf j → length (j .places) ≡ 512 → Put a f 0 n (sheetOf j)
+  pub sheet-put : (a b c d f : List ℕ) (i k m n : ℕ) (hs : List ℤ) → Put a b 0 i (headText hs) → Put b c i k (writeLines (grainForm ∷ []) (stated defaultGrain (toZ w32 (ofZ w32 (j .grain))))) → Put c d k m (edgesText (j .count) (j .places)) → Put d f m n (writeForm endForm hs) → hs ≡ headOf j → length (j .places) ≡ 512 → Put a f 0 n (sheetOf j)
   unfolding codeText
   sheet-put a b c d f i k m n hs p q r s e x =
       subst (Put a f 0 n)
-      (ap₂ (λ y z. headText y ++ (writeLines grainForm (stated defaultGrain z) ++ (edgesText (j .count) (j .places) ++ writeForm endForm []))) e (toZ-ofZ w32 (j .grain) (small-fits (j .grain) (legal j ok .grain-small)))
+      (ap₂ (λ y z. headText y ++ (writeLines (grainForm ∷ []) (stated defaultGrain z) ++ (edgesText (j .count) (j .places) ++ writeForm endForm []))) e (toZ-ofZ w32 (j .grain) (small-fits (j .grain) (legal j ok .grain-small)))
       ∙ sym (sheet-as-code j (places-there x)))
       (put-then a b f 0 i n (headText hs) _ p
-      (put-then b c f i k n (writeLines grainForm (stated defaultGrain (toZ w32 (ofZ w32 (j .grain))))) _ q
+      (put-then b c f i k n (writeLines (grainForm ∷ []) (stated defaultGrain (toZ w32 (ofZ w32 (j .grain))))) _ q
       (put-then c d f k m n (edgesText (j .count) (j .places)) (writeForm endForm []) r (subst (Put d f m n) (end-line hs) s))))
 
 -- ---- write
--- what is refused of the job by itself is refused of the write
-refused-first : (a b c d : Bool) (k : ℕ) → _≡_ {A = ℕ} (cond a (cond b (cond c 0 4) 3) 2) (suc k) → _≡_ {A = ℕ} (cond a (cond b (cond c (cond d 0 7) 4) 3) 2) (suc k)
-refused-first true true true d k h = absurd (omega arith)
-refused-first true true false d k h = h
-refused-first true false c d k h = h
-refused-first false b c d k h = h
-
 module _ (j : Job) (out : List ℕ) where
-  refuse : (k : ℕ) → judge j ≡ suc k → writeRefusal j out ≡ suc k
+  abbrev space-check : Checks
+  space-check = check space (leb (length (sheetOf j)) (length out))
+
+  -- what is refused of the job by itself is refused of the write
+  refuse : (k : ℕ) → k ≡ judge j → (k ≡ 0 → ⊥) → writeRefusal j out ≡ k
   unfolding judge writeRefusal
-  refuse k e = refused-first (counted j) (ranged j) (celled j) (leb (length (sheetOf j)) (length out)) k e
+  refuse k e f = when-refused (own j []) space-check (λ z. f (e ∙ z)) ∙ sym e
 
   pub refused : (k : ℕ) → k ≡ judge j → (k ≡ 0 → ⊥) → record { refusal = k; bytes = 0 } ≡ write j out
   unfolding write accepted
   refused zero e f = absurd (f refl)
-  refused (suc k) e f = sym (rw (refuse k (sym e)))
+  refused (suc k) e f = sym (rw (refuse (suc k) e f))
 
   pub refused-left : (k : ℕ) → k ≡ judge j → (k ≡ 0 → ⊥) → out ≡ writeLeaves j out
   unfolding writeLeaves accepted
   refused-left zero e f = absurd (f refl)
-  refused-left (suc k) e f = sym (rw (refuse k (sym e)))
+  refused-left (suc k) e f = sym (rw (refuse (suc k) e f))
 
   module _ (k : ℕ) (e : k ≡ judge j) (z : k ≡ 0) (before text : List ℕ) (n : ℕ) (p : Put before text 0 n (sheetOf j)) where
     size : n ≡ length (sheetOf j)
@@ -101,11 +97,11 @@ module _ (j : Job) (out : List ℕ) where
 
     no-room : length out < n → writeRefusal j out ≡ 7
     unfolding writeRefusal judge
-    no-room h = let l = all-passed j (sym e ∙ z) in rw (l .0, l .1, l .2, lt-leb (length (sheetOf j)) (length out) (omega (arith, size)))
+    no-room h = first-fails (own j []) space _ [] (sym e ∙ z) (lt-leb (length (sheetOf j)) (length out) (omega (arith, size)))
 
     has-room : n ≤ length out → writeRefusal j out ≡ 0
     unfolding writeRefusal judge
-    has-room h = let l = all-passed j (sym e ∙ z) in rw (l .0, l .1, l .2, le-leb (length (sheetOf j)) (length out) (omega (arith, size)))
+    has-room h = when-passed (own j []) space-check (sym e ∙ z) ∙ rw (le-leb (length (sheetOf j)) (length out) (omega (arith, size)))
 
     pub no-space : length out < n → record { refusal = 7; bytes = 0 } ≡ write j out
     unfolding write accepted
