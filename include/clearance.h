@@ -13,16 +13,19 @@
  * unit is a sixteenth of that; the store and the distances of a point are in
  * fine units, the distances squared.
  *
- * Lent memory. A pointer is never null, not even with the length 0, is aligned
- * for its type and has at least as many numbers or bytes as its length says.
- * Memory that a function writes overlaps nothing else that it is given. What
- * is lent as const is only read. A refused call changes nothing that it is
- * lent. An accepted call writes from the start of `job`, `out`, `store` or
- * `cells` on and changes nothing past what it writes.
+ * Lent memory. A pointer is aligned for its type and has at least as many
+ * numbers or bytes as its length says. With the length 0 it is not followed and
+ * may be null: that lends an empty sheet, row, store or map. A pointer without a
+ * length (`job` of a read, `bytes`, `nodes`, `nearest`) is never null. Memory
+ * that a function writes overlaps nothing else that it is given. What is lent as
+ * const is only read. A refused call changes nothing that it is lent. An accepted
+ * call writes from the start of `job`, `out`, `store` or `cells` on and changes
+ * nothing past what it writes.
  *
- * Jobs. A job is lent as a row of CLEARANCE_JOB_NUMBERS numbers and the row's
- * length. Numbers that a shorter row lacks are taken as 0, and of a longer row
- * only the first 519 are looked at.
+ * Jobs. A job is a row of CLEARANCE_JOB_NUMBERS numbers. A read fills such a row
+ * and takes no other. The other functions take a row and its length: numbers that
+ * a shorter row lacks are taken as 0, and of a longer row only the first
+ * CLEARANCE_JOB_NUMBERS are looked at.
  */
 #ifndef CLEARANCE_H
 #define CLEARANCE_H
@@ -53,8 +56,7 @@ enum {
     CLEARANCE_LONG = 5,
     /* "store": `store` is too short for the trees. From map and point. */
     CLEARANCE_STORE = 6,
-    /* "space": `job` that is read into, `out` or `cells` is too short. From
-     * read, write and map. */
+    /* "space": `out` or `cells` is too short. From write and map. */
     CLEARANCE_SPACE = 7,
     /* "stranger": `store` does not begin with the trees of this job. From
      * point. */
@@ -83,12 +85,13 @@ enum {
     CLEARANCE_PLACES = 7
 };
 
-/* All the numbers of a job. */
-#define CLEARANCE_JOB_NUMBERS 519
 /* The most edges of a job, and the places for them. */
 #define CLEARANCE_EDGES_MOST 64
 /* The numbers of a place. */
 #define CLEARANCE_PLACE_NUMBERS 8
+/* All the numbers of a job. */
+#define CLEARANCE_JOB_NUMBERS \
+    (CLEARANCE_PLACES + CLEARANCE_EDGES_MOST * CLEARANCE_PLACE_NUMBERS)
 
 /* The greatest size of a coordinate, above and below zero. */
 #define CLEARANCE_COORDINATE_MOST 1000000
@@ -141,13 +144,12 @@ enum {
  * Reads a job sheet.
  *
  * sheet, sheet_len  the bytes of the sheet; at most 8192 can be accepted
- * job, job_len      the job is written to the first 519 numbers; fewer are
- *                   refused as space
+ * job               the job is written here
  *
- * Returns 0, or CLEARANCE_FORM, _EDGES, _RANGE, _CELL or _SPACE.
+ * Returns 0, or CLEARANCE_FORM, _EDGES, _RANGE or _CELL.
  */
 uint8_t clearance_read(const uint8_t *sheet, size_t sheet_len,
-                       int32_t *job, size_t job_len);
+                       int32_t job[CLEARANCE_JOB_NUMBERS]);
 
 /*
  * Writes the sheet of a job. The grain line is left out where the grain is 10.

@@ -3,9 +3,11 @@
 
 use clearance_reference::{Job, EDGE_LIMIT, NUMBERS_AN_EDGE};
 
-/// The numbers of a job as the symbols take it: x, y, N, M, reach, grain, count
-/// and the places.
-pub const JOB_NUMBERS: usize = 7 + EDGE_LIMIT * NUMBERS_AN_EDGE;
+/// Where the places begin among the numbers of a job: behind x, y, N, M, reach,
+/// grain and count.
+const PLACES: usize = 7;
+/// The numbers of a job as the symbols take it.
+pub const JOB_NUMBERS: usize = PLACES + EDGE_LIMIT * NUMBERS_AN_EDGE;
 /// A job as numbers.
 pub type JobNumbers = [i32; JOB_NUMBERS];
 
@@ -13,8 +15,8 @@ pub type JobNumbers = [i32; JOB_NUMBERS];
 pub fn numbers(job: &Job) -> JobNumbers {
     let mut numbers = [0; JOB_NUMBERS];
     let count = i32::try_from(job.count).unwrap_or(i32::MAX);
-    numbers[..7].copy_from_slice(&[job.x, job.y, job.n, job.m, job.reach, job.grain, count]);
-    numbers[7..].copy_from_slice(&job.places);
+    numbers[..PLACES].copy_from_slice(&[job.x, job.y, job.n, job.m, job.reach, job.grain, count]);
+    numbers[PLACES..].copy_from_slice(&job.places);
     numbers
 }
 
@@ -29,7 +31,7 @@ mod symbols {
     /// Reads a sheet into a job, which a refusal leaves as it was.
     pub fn read(sheet: &[u8], job: &mut JobNumbers) -> u8 {
         // The symbol reads the sheet's bytes and writes at most the job's numbers.
-        unsafe { clearance_read(sheet.as_ptr(), sheet.len(), job.as_mut_ptr(), JOB_NUMBERS) }
+        unsafe { clearance_read(sheet.as_ptr(), sheet.len(), job) }
     }
 
     /// Writes a sheet; also the bytes written.

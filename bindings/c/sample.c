@@ -22,8 +22,7 @@ int main(void)
 {
     int32_t job[CLEARANCE_JOB_NUMBERS];
     size_t nodes, side, row;
-    uint8_t refusal = clearance_read((const uint8_t *)sheet, strlen(sheet),
-                                     job, CLEARANCE_JOB_NUMBERS);
+    uint8_t refusal = clearance_read((const uint8_t *)sheet, strlen(sheet), job);
 
     if (refusal == CLEARANCE_ACCEPTED)
         refusal = clearance_map(job, CLEARANCE_JOB_NUMBERS,

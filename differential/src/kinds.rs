@@ -32,19 +32,9 @@ const fn kind(
 
 /// All of them.
 pub const KINDS: [Kind; 16] = [
-    kind("sheets of legal jobs", 8, &[0, 7], read_case::legal),
-    kind(
-        "sheets of odd numbers",
-        16,
-        &[0, 2, 3, 4, 7],
-        read_case::odd,
-    ),
-    kind(
-        "sheets damaged",
-        32,
-        &[0, 1, 2, 3, 4, 7],
-        read_case::damaged,
-    ),
+    kind("sheets of legal jobs", 8, &[0], read_case::legal),
+    kind("sheets of odd numbers", 16, &[0, 2, 3, 4], read_case::odd),
+    kind("sheets damaged", 32, &[0, 1, 2, 3, 4], read_case::damaged),
     kind("sheets by length", 8, &[0, 1, 2], read_case::lengths),
     kind("written legal jobs", 8, &[0, 7], write_case::legal),
     kind(

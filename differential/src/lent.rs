@@ -82,14 +82,25 @@ impl<T: Mark> Lent<T> {
         &mut self.memory[self.start..self.start + self.length]
     }
 
-    /// Where the lent slice starts; the pointer may be moved over the guards.
+    /// Where the lent slice starts; the pointer may be moved over the guards. Of
+    /// an empty slice it is null as often as not.
     pub fn pointer(&self) -> *const T {
+        if self.null() {
+            return std::ptr::null();
+        }
         self.memory.as_ptr().wrapping_add(self.start)
     }
 
     /// As `pointer`, to write.
     pub fn pointer_mut(&mut self) -> *mut T {
+        if self.null() {
+            return std::ptr::null_mut();
+        }
         self.memory.as_mut_ptr().wrapping_add(self.start)
+    }
+
+    fn null(&self) -> bool {
+        self.length == 0 && self.start % 2 == 1
     }
 
     /// How long the lent slice is.

@@ -1,4 +1,4 @@
-//! A job as the 519 numbers that the library takes, legal or not.
+//! A job as the row of numbers that the library takes, legal or not.
 
 use clearance_reference::Job;
 use std::fmt::Write;
@@ -11,7 +11,7 @@ pub const REACH: usize = 4;
 pub const GRAIN: usize = 5;
 pub const COUNT: usize = 6;
 /// The first number of the first place.
-pub const PLACES: usize = 7;
+pub const PLACES: usize = clearance::PLACES;
 /// Numbers of a place.
 pub const PLACE: usize = clearance::PLACE_NUMBERS;
 

@@ -8,53 +8,27 @@ use crate::random::Random;
 use crate::sheets::{legal_sheet, odd_sheet, sheet_of_length};
 use crate::tally::Tally;
 use clearance::ffi;
-use clearance_reference::{Refusal, SHEET_LIMIT};
+use clearance_reference::SHEET_LIMIT;
 
 /// Reads a lent sheet with both and compares everything.
 fn compare(sheet: &Lent<u8>, salt: u64, tally: &mut Tally) -> Result<(), Fault> {
     let given = sheet.clone();
-    let length = row_length(salt);
-    let mut job = Lent::marked(length, salt);
+    let mut job = Lent::<i32>::marked(clearance::JOB_NUMBERS, salt);
     let mut wanted = job.clone();
-    // SAFETY: both are as long as the call is told, and apart.
+    // SAFETY: the sheet is as long as the call is told, the job a whole row, and they are apart.
     let number =
-        unsafe { ffi::clearance_read(sheet.pointer(), sheet.length(), job.pointer_mut(), length) };
+        unsafe { ffi::clearance_read(sheet.pointer(), sheet.length(), job.pointer_mut().cast()) };
 
     let result = clearance_reference::read(given.part());
-    let has_room = length >= clearance::JOB_NUMBERS;
-    if let (Ok(read), true) = (&result, has_room) {
-        wanted.part_mut()[..clearance::JOB_NUMBERS].copy_from_slice(&numbers_of(read));
+    if let Ok(read) = &result {
+        wanted.part_mut().copy_from_slice(&numbers_of(read));
     }
-    let wanted_number = match number_of(&result) {
-        0 if !has_room => Refusal::Space.number(),
-        number => number,
-    };
-    tally.note(wanted_number);
+    tally.note(number_of(&result));
     Comparison::default()
-        .value("refusal", number, wanted_number)
+        .value("refusal", number, number_of(&result))
         .memory("job", &job, &wanted)
         .memory("sheet", sheet, &given)
-        .finish(|| format!("{} into {length} numbers", describe(given.part())))
-}
-
-/// The numbers lent for the job: most often just enough.
-fn row_length(salt: u64) -> usize {
-    const NEED: usize = clearance::JOB_NUMBERS;
-    let mut random = Random::new(salt, 0);
-    match random.below(4) {
-        0 => random.choose(&[
-            0,
-            1,
-            7,
-            8 * 64,
-            NEED - 1,
-            NEED - 1,
-            NEED + 1,
-            NEED + 1,
-            NEED + 300,
-        ]),
-        _ => NEED,
-    }
+        .finish(|| describe(given.part()))
 }
 
 /// A sheet in few words: its length and its first bytes.

@@ -1,5 +1,6 @@
-//! The four calls. References make the pointers right and Rust keeps what is
-//! written apart from all else, so there is nothing left to check.
+//! The four calls. References make the pointers right, an empty slice's never
+//! null, and Rust keeps what is written apart from all else, so there is nothing
+//! left to check.
 
 use crate::ffi;
 use crate::job::{Job, JOB_NUMBERS};
@@ -20,8 +21,7 @@ use crate::refusal::Refusal;
 pub fn read(sheet: &[u8]) -> Result<Job, Refusal> {
     let mut job = Job::ZERO;
     // SAFETY: a slice and a job of its own, see the head of this file.
-    let number =
-        unsafe { ffi::clearance_read(sheet.as_ptr(), sheet.len(), job.as_mut_ptr(), JOB_NUMBERS) };
+    let number = unsafe { ffi::clearance_read(sheet.as_ptr(), sheet.len(), job.as_mut_ptr()) };
     Refusal::check(number)?;
     Ok(job)
 }

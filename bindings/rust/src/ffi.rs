@@ -2,28 +2,29 @@
 //! callers that want what a refused call leaves. All others take the safe
 //! functions of the crate.
 //!
-//! A slice is a pointer and its length. A job is a row of
-//! [`JOB_NUMBERS`](crate::JOB_NUMBERS) numbers; those that a shorter row lacks
-//! are taken as 0, and past a longer one's first 519 nothing is looked at. The
-//! number returned is 0 or a refusal's.
+//! A slice is a pointer and its length; with the length 0 the pointer may be
+//! null, and no other pointer is. A job is a row of [`JOB_NUMBERS`] numbers: one
+//! is read into a whole row, and of one that is lent with its length those that a
+//! shorter row lacks are taken as 0, and past a longer row's end nothing is
+//! looked at. The number returned is 0 or a refusal's.
+
+use crate::job::JOB_NUMBERS;
 
 extern "C" {
-    /// Reads a sheet into the first 519 numbers of `job`. A sheet that is not
-    /// refused by itself is refused with 7 where `job` has fewer. A refused call
-    /// writes nothing.
+    /// Reads a sheet into a job's row. Gives 0 to 4. A refused call writes
+    /// nothing.
     ///
     /// # Safety
-    /// `sheet` holds `sheet_len` bytes and `job` has `job_len` numbers to write.
-    /// No pointer is null, and what is written overlaps nothing else.
-    pub fn clearance_read(sheet: *const u8, sheet_len: usize, job: *mut i32, job_len: usize) -> u8;
+    /// `sheet` holds `sheet_len` bytes and `job` has a row to write, which
+    /// overlaps nothing else.
+    pub fn clearance_read(sheet: *const u8, sheet_len: usize, job: *mut [i32; JOB_NUMBERS]) -> u8;
 
     /// Writes a job's sheet, and how many bytes it has to `bytes`. A refused call
     /// writes nothing.
     ///
     /// # Safety
     /// `job` holds `job_len` numbers, `out` has `out_len` bytes to write and
-    /// `bytes` one number. No pointer is null, and what is written overlaps
-    /// nothing else.
+    /// `bytes` one number. What is written overlaps nothing else.
     pub fn clearance_write(
         job: *const i32,
         job_len: usize,
@@ -37,8 +38,8 @@ extern "C" {
     ///
     /// # Safety
     /// `job` holds `job_len` numbers, `store` has `store_len` numbers to write,
-    /// `cells` `cells_len` bytes and `nodes` one number. No pointer is null, and
-    /// what is written overlaps nothing else.
+    /// `cells` `cells_len` bytes and `nodes` one number. What is written overlaps
+    /// nothing else.
     pub fn clearance_map(
         job: *const i32,
         job_len: usize,
@@ -54,7 +55,7 @@ extern "C" {
     ///
     /// # Safety
     /// `job` holds `job_len` numbers, `store` `store_len`, and `nearest` has three
-    /// to write. No pointer is null, and what is written overlaps nothing else.
+    /// to write, which overlap nothing else.
     pub fn clearance_point(
         job: *const i32,
         job_len: usize,

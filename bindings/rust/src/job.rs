@@ -4,8 +4,10 @@
 pub const EDGES_MOST: usize = 64;
 /// The numbers of a place: x and y of four control points.
 pub const PLACE_NUMBERS: usize = 8;
+/// Where the places begin among the numbers of a job.
+pub const PLACES: usize = 7;
 /// All the numbers of a job.
-pub const JOB_NUMBERS: usize = 7 + EDGES_MOST * PLACE_NUMBERS;
+pub const JOB_NUMBERS: usize = PLACES + EDGES_MOST * PLACE_NUMBERS;
 
 /// A job, legal or not: every field takes any value.
 ///
@@ -22,7 +24,7 @@ pub const JOB_NUMBERS: usize = 7 + EDGES_MOST * PLACE_NUMBERS;
 /// assert!(sheet[..length].ends_with(b"(edge (0 0) (0 5) (5 0) (5 5))\n)\n"));
 /// # Ok::<(), Refusal>(())
 /// ```
-// The fields stand in the order of the 519 numbers of the C functions.
+// The fields stand in the order of the numbers in the C functions' rows.
 #[repr(C)]
 #[derive(Clone, Copy, Debug, PartialEq, Eq, Hash)]
 pub struct Job {
@@ -45,7 +47,8 @@ pub struct Job {
     pub places: [i32; EDGES_MOST * PLACE_NUMBERS],
 }
 
-const _: () = assert!(size_of::<Job>() == JOB_NUMBERS * size_of::<i32>());
+const _: () = assert!(size_of::<Job>() == size_of::<[i32; JOB_NUMBERS]>());
+const _: () = assert!(std::mem::offset_of!(Job, places) == PLACES * size_of::<i32>());
 
 impl Job {
     /// The job of zeros, which every call refuses.
@@ -66,7 +69,7 @@ impl Job {
     }
 
     /// The job's numbers for the C functions to write.
-    pub(crate) fn as_mut_ptr(&mut self) -> *mut i32 {
+    pub(crate) fn as_mut_ptr(&mut self) -> *mut [i32; JOB_NUMBERS] {
         (&raw mut *self).cast()
     }
 }

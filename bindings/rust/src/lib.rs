@@ -38,7 +38,7 @@ mod nearest;
 mod refusal;
 
 pub use calls::{map, point, read, write};
-pub use job::{Job, EDGES_MOST, JOB_NUMBERS, PLACE_NUMBERS};
+pub use job::{Job, EDGES_MOST, JOB_NUMBERS, PLACES, PLACE_NUMBERS};
 pub use nearest::Nearest;
 pub use refusal::Refusal;
 

@@ -1,27 +1,24 @@
-// The library's face for callers in C and Rust: the four entries over numbers, slices and pointers. A job is a row of 519 numbers; of a row
-// that is shorter the missing numbers are 0, and of one that is longer the rest is not looked at. None asks anything of its caller, and a
-// refused call changes nothing.
+// The library's face for callers in C and Rust: the four entries over numbers, slices and pointers. A job is a row of `flat_jobs::NUMBERS`
+// numbers; of a row that is shorter the missing numbers are 0, and of one that is longer the rest is not looked at. None asks anything of its
+// caller, and a refused call changes nothing. What calls one after the other promise stands in specs/Promises.antt.
+use flat_jobs::NUMBERS;
 ghost use mathlib.Core.Path.{_≡_};
 ghost use Prim.Native.Nat.{_<_};
 ghost use lib.IntN.{pos};
 ghost use Rattle.model.specs.Entries as entries;
 ghost use Rattle.model.specs.Promises.{MapHolds};
 ghost use Rattle.flat_jobs.specs.FlatJobs.{jobFrom};
-ghost use Rattle.exports.specs.Rows.{readRefusal, readLeaves, bytesLeft, nodesLeft, Answered};
+ghost use Rattle.exports.specs.Rows.{readLeaves, bytesLeft, nodesLeft, Answered};
 
-// Reads a sheet into the front of `job`: 0, or the sheet's refusal 1, 2, 3 or 4, or 7 where `job` has no room for 519 numbers.
+// Reads a sheet into `job`: 0, or the sheet's refusal 1, 2, 3 or 4.
 #[no_mangle]
-pub extern "C" fn clearance_read(sheet: &[u8], job: &mut [i32]) -> u8
-    ensures refusal { λ r. ⌜ r ≡ readRefusal (now (sheet .entry)) (now (job .entry)) ⌝ }
+pub extern "C" fn clearance_read(sheet: &[u8], job: &mut [i32; NUMBERS]) -> u8
+    ensures refusal { λ r. ⌜ r ≡ entries.read (now (sheet .entry)) .refusal ⌝ }
     ensures row { λ _. ⌜ now (job .exit) ≡ readLeaves (now (sheet .entry)) (now (job .entry)) ⌝ }
 {
     let read = clearance::read(sheet);
-    let refusal = read.refusal;
-    if refusal > 0 {
-        return refusal;
-    }
-    if job.len() < 519 {
-        return 7;
+    if read.refusal > 0 {
+        return read.refusal;
     }
     let found = read.job;
     flat_jobs::put_job(found, job);

@@ -1,6 +1,6 @@
 -- The needs of the functions that copy a job's numbers, over plain variables. Assumes nothing.
 use mathlib.Core.Path.{_≡_, sym, ap, _∙_}
-use mathlib.Core.List.{List, _++_, append-nil}
+use mathlib.Core.List.{List, [], _++_, append-nil}
 use Prim.Native.Nat.{ℕ, _+_, _^_, _≤_, _<_}
 use native.Mathlib.Numerals.{add-one}
 use native.Mathlib.Omega.{arith}
@@ -12,9 +12,11 @@ use borrow.Author.Tests.{lt-ltb}
 use mir.Syntax.{w32}
 use mir.Val.{toZ, ofZ}
 use Rattle.integers.specs.Signed.{read32}
-use Rattle.sequences.specs.Tables.{table, length-table, getD-table}
+use Rattle.sequences.specs.Tables.{getD-table}
 use Rattle.model.specs.declared.Job.{Job}
-use Rattle.flat_jobs.specs.FlatJobs.{countOf, jobFrom, headOf, numbersOf}
+use Rattle.model.specs.Promises.{Whole}
+use Rattle.flat_jobs.specs.FlatJobs.{placesAt, placesLong, rowLong, countOf, placesFrom, jobFrom, headOf, numbersOf}
+use Rattle.flat_jobs.specs.Rows.{places-long}
 
 -- a count's bits are the count
 pub count-read : (n : ℕ) → n ≤ 64 → toZ w32 n ≡ pos n
@@ -25,28 +27,28 @@ pub copied-more : (d : List ℤ) (at : ℕ) (s out : List ℤ) (i : ℕ) → out
 copied-more d at s out i e h k v f m = rw (read32 v m, e, f, add-one i) (paste-suc d at s i (pos 0) h k)
 
 -- one place more
-pub placed-more : (d out numbers : List ℤ) (i : ℕ) → length d ≡ 512 → out ≡ paste d 0 (table 512 (λ k. getD numbers (7 + k) (pos 0))) i → i < 512 → (v : ℤ) → v ≡ getD numbers (7 + i) (pos 0) → mag v < 2 ^ 31 → set out i (toZ w32 (ofZ w32 v)) ≡ paste d 0 (table 512 (λ k. getD numbers (7 + k) (pos 0))) (i + 1)
+pub placed-more : (d out numbers : List ℤ) (i : ℕ) → length d ≡ placesLong → out ≡ paste d 0 (placesFrom numbers) i → i < placesLong → (v : ℤ) → v ≡ getD numbers (placesAt + i) (pos 0) → mag v < 2 ^ 31 → set out i (toZ w32 (ofZ w32 v)) ≡ paste d 0 (placesFrom numbers) (i + 1)
 placed-more d out numbers i n e h v f m =
     ap (λ n. set out n (toZ w32 (ofZ w32 v))) (let z : i ≡ 0 + i = omega arith in z)
-    ∙ copied-more d 0 (table 512 (λ k. getD numbers (7 + k) (pos 0))) out i e (omega arith) (omega (arith, length-table 512 (λ k. getD numbers (7 + k) (pos 0)))) v
-    (f ∙ sym (getD-table 512 (λ k. getD numbers (7 + k) (pos 0)) i (pos 0) h)) m
+    ∙ copied-more d 0 (placesFrom numbers) out i e (omega arith) (omega (arith, places-long numbers)) v
+    (f ∙ sym (getD-table placesLong (λ k. getD numbers (placesAt + k) (pos 0)) i (pos 0) h)) m
 
 -- and at the end all of them
-pub places-now : (d s out : List ℤ) (i : ℕ) → length d ≡ 512 → length s ≡ 512 → out ≡ paste d 0 s i → i ≤ 512 → 512 ≤ i → out ≡ s
-places-now d s out i h k e l m =
-    let z : i ≡ 512 = omega arith in
-    e ∙ rw (z, take-all 512 s (omega arith), drop-of-length-le d {i = 0 + 512} (omega arith)) (append-nil s)
+pub places-now : (d numbers out : List ℤ) (i : ℕ) → length d ≡ placesLong → out ≡ paste d 0 (placesFrom numbers) i → i ≤ placesLong → placesLong ≤ i → out ≡ placesFrom numbers
+places-now d numbers out i h e l m =
+    let z : i ≡ placesLong = omega arith in
+    e ∙ rw (z, take-all placesLong (placesFrom numbers) (omega (arith, places-long numbers)), drop-of-length-le d {i = 0 + placesLong} (omega arith)) (append-nil (placesFrom numbers))
 
--- the first seven numbers and then the places are the row
-pub row-now : (j : Job) (hs old one two : List ℤ) → length (j .places) ≡ 512 → 519 ≤ length old → hs ≡ headOf j → one ≡ paste old 0 hs (length hs) → two ≡ paste one 7 (j .places) (length (j .places)) → two ≡ numbersOf j ++ drop 519 old
+-- the first numbers and then the places are the whole row
+pub row-now : (j : Job) (hs old one two : List ℤ) → Whole j → length old ≡ rowLong → hs ≡ headOf j → one ≡ paste old 0 hs (length hs) → two ≡ paste one placesAt (j .places) (length (j .places)) → two ≡ numbersOf j
 unfolding numbersOf
 row-now j hs old one two k h g e f =
-    let was : one ≡ headOf j ++ drop 7 old = e ∙ ap (λ us. paste old 0 us (length us)) g in
-    let front : take 7 one ≡ headOf j = ap (take 7) was in
-    let back : drop 519 one ≡ drop 519 old = ap (drop 519) was ∙ drop-drop 512 7 old in
-    f ∙ rw (k, front, take-all 512 (j .places) (omega arith), back)
+    let was : one ≡ headOf j ++ drop placesAt old = e ∙ ap (λ us. paste old 0 us (length us)) g in
+    let front : take placesAt one ≡ headOf j = ap (take placesAt) was in
+    let back : drop rowLong one ≡ [] = ap (drop rowLong) was ∙ drop-drop placesLong placesAt old ∙ drop-of-length-le old {i = rowLong} (omega arith) in
+    f ∙ rw (k, front, take-all placesLong (j .places) (omega arith), back, append-nil (j .places))
 
 -- the numbers that were read make the job of the row
-pub job-is : (vs : List ℤ) (x y n m reach grain z : ℤ) (count : ℕ) (places : List ℤ) → x ≡ getD vs 0 (pos 0) → y ≡ getD vs 1 (pos 0) → n ≡ getD vs 2 (pos 0) → m ≡ getD vs 3 (pos 0) → reach ≡ getD vs 4 (pos 0) → grain ≡ getD vs 5 (pos 0) → z ≡ getD vs 6 (pos 0) → count ≡ countOf z → places ≡ table 512 (λ i. getD vs (7 + i) (pos 0)) → _≡_ {A = Job} (record { x = x; y = y; n = n; m = m; reach = reach; grain = grain; count = count; places = places }) (jobFrom vs)
+pub job-is : (vs : List ℤ) (x y n m reach grain z : ℤ) (count : ℕ) (places : List ℤ) → x ≡ getD vs 0 (pos 0) → y ≡ getD vs 1 (pos 0) → n ≡ getD vs 2 (pos 0) → m ≡ getD vs 3 (pos 0) → reach ≡ getD vs 4 (pos 0) → grain ≡ getD vs 5 (pos 0) → z ≡ getD vs 6 (pos 0) → count ≡ countOf z → places ≡ placesFrom vs → _≡_ {A = Job} (record { x = x; y = y; n = n; m = m; reach = reach; grain = grain; count = count; places = places }) (jobFrom vs)
 unfolding jobFrom
 job-is vs x y n m reach grain z count places a b c d e f g h k = λ i. record { x = a i; y = b i; n = c i; m = d i; reach = e i; grain = f i; count = (h ∙ ap countOf g) i; places = k i }

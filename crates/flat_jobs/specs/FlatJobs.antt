@@ -1,4 +1,4 @@
--- A job as 519 numbers in a row: x, y, n, m, reach, grain, the count, and the 512 numbers of the places. Assumes nothing.
+-- A job as a row of numbers: x, y, n, m, reach, grain, the count, and the numbers of the places. Assumes nothing.
 use mathlib.Core.Bool.{cond}
 use mathlib.Core.List.{List, [], _∷_, _++_}
 use Prim.Native.Nat.{ℕ, _+_}
@@ -8,9 +8,22 @@ use lib.ListN.{getD}
 use Rattle.sequences.specs.Tables.{table}
 use Rattle.model.specs.declared.Job.{Job}
 
+-- where the places begin in a row, how many numbers they are, and how long the row is
+abbrev pub placesAt : ℕ
+placesAt = 7
+
+abbrev pub placesLong : ℕ
+placesLong = 512
+
+abbrev pub rowLong : ℕ
+rowLong = placesAt + placesLong
+
 -- a count below 0 is taken for 0, which is refused as any count of no edges
 abbrev pub countOf : ℤ → ℕ
 countOf z = cond (ltZ z (pos 0)) 0 (natAbs z)
+
+abbrev pub placesFrom : List ℤ → List ℤ
+placesFrom vs = table placesLong (λ i. getD vs (placesAt + i) (pos 0))
 
 -- the job of a row, in which numbers that are missing at its end are 0 and numbers past its end are not looked at
 unfoldable pub jobFrom : List ℤ → Job
@@ -22,7 +35,7 @@ jobFrom vs = record {
   reach = getD vs 4 (pos 0);
   grain = getD vs 5 (pos 0);
   count = countOf (getD vs 6 (pos 0));
-  places = table 512 (λ i. getD vs (7 + i) (pos 0));
+  places = placesFrom vs;
 }
 
 -- the row of a job

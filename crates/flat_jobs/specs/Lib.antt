@@ -1,2 +1,3 @@
--- A job as 519 numbers in a row, for callers that cannot pass the struct.
+-- A job as a row of numbers, for callers that cannot pass the struct.
 pub mod FlatJobs
+pub mod Rows

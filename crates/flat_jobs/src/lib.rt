@@ -1,13 +1,18 @@
-// A job as 519 numbers in a row, read and written.
+// A job as a row of numbers, read and written.
 use model::Job;
 ghost use mathlib.Core.Path.{_≡_};
-ghost use mathlib.Core.List.{_++_};
 ghost use Prim.Native.Nat.{_+_, _≤_};
 ghost use lib.IntN.{pos};
-ghost use lib.ListN.{length, getD, drop};
+ghost use lib.ListN.{length, getD};
 ghost use lib.Seq.{paste};
-ghost use Rattle.sequences.specs.Tables.{table};
-ghost use Rattle.flat_jobs.specs.FlatJobs.{countOf, jobFrom, headOf, numbersOf};
+ghost use Rattle.flat_jobs.specs.FlatJobs.{placesLong, countOf, placesFrom, jobFrom, headOf, numbersOf};
+
+// Where the places begin in a row, how many numbers they are, and how long the row is.
+pub const PLACES: usize = 7;
+
+const PLACES_LONG: usize = 512;
+
+pub const NUMBERS: usize = PLACES + PLACES_LONG;
 
 fn count_of(z: i32) -> usize
     ensures count { λ r. ⌜ r ≡ countOf z ⌝ }
@@ -22,20 +27,20 @@ fn number_at(numbers: &[i32], i: usize) -> i32
     if i < numbers.len() { numbers[i] } else { 0 }
 }
 
-// 512 zeros, to be written over.
-fn no_places() -> [i32; 512]
-    ensures long { λ r. ⌜ length r ≡ 512 ⌝ }
+// Zeros, to be written over.
+fn no_places() -> [i32; PLACES_LONG]
+    ensures long { λ r. ⌜ length r ≡ placesLong ⌝ }
 {
-    [0i32; 512]
+    [0i32; PLACES_LONG]
 }
 
-fn places_of(numbers: &[i32]) -> [i32; 512]
-    ensures places { λ r. ⌜ r ≡ table 512 (λ i. getD (now (numbers .entry)) (7 + i) (pos 0)) ⌝ }
+fn places_of(numbers: &[i32]) -> [i32; PLACES_LONG]
+    ensures places { λ r. ⌜ r ≡ placesFrom (now (numbers .entry)) ⌝ }
 {
     let mut places = no_places();
     let mut i: usize = 0;
-    while i < 512 {
-        let v = number_at(numbers, 7 + i);
+    while i < PLACES_LONG {
+        let v = number_at(numbers, PLACES + i);
         places[i] = v;
         i += 1;
     }
@@ -72,7 +77,7 @@ fn count_number(n: usize) -> i32
     n as i32
 }
 
-fn head_of(job: Job) -> [i32; 7]
+fn head_of(job: Job) -> [i32; PLACES]
     requires few { ⌜ job .count ≤ 64 ⌝ }
     ensures head { λ r. ⌜ r ≡ headOf job ⌝ }
 {
@@ -100,14 +105,13 @@ fn put_from(numbers: &mut [i32], at: usize, from: &[i32])
     }
 }
 
-// The front of `numbers` becomes the job's row.
-pub fn put_job(job: Job, numbers: &mut [i32])
+// The row becomes the job's.
+pub fn put_job(job: Job, numbers: &mut [i32; NUMBERS])
     requires few { ⌜ job .count ≤ 64 ⌝ }
-    requires space { ⌜ 519 ≤ length (now numbers) ⌝ }
-    ensures wrote { λ _. ⌜ now (numbers .exit) ≡ numbersOf job ++ drop 519 (now (numbers .entry)) ⌝ }
+    ensures wrote { λ _. ⌜ now (numbers .exit) ≡ numbersOf job ⌝ }
 {
     let head = head_of(job);
     let places = job.places;
     put_from(numbers, 0, &head);
-    put_from(numbers, 7, &places);
+    put_from(numbers, PLACES, &places);
 }

@@ -1,26 +1,24 @@
 use mathlib.Core.Path.{_≡_}
-use Prim.Native.Nat.{_+_, _-_, _≤_}
+use Prim.Native.Nat.{_-_, _≤_}
 use native.Mathlib.Omega.{arith}
-use lib.IntN.{pos}
-use lib.ListN.{getD}
 use lib.Seq.{paste, paste-zero}
 use borrow.Author.Needs.{needs}
-use Rattle.sequences.specs.Tables.{table, length-table}
+use Rattle.flat_jobs.specs.FlatJobs.{placesLong, placesFrom}
 use Rattle.flat_jobs.proofs.Steps as steps
 use Rattle.flat_jobs.proofs.places_of.Statement.{statement}
 use Rattle.flat_jobs.proofs.places_of.Tie as tie
 
 abbrev Inv-loop : tie.InvT-loop
-Inv-loop numbers places₀ i₀ places i = (places ≡ paste places₀ 0 (table 512 (λ k. getD numbers (7 + k) (pos 0))) i) × (i ≤ 512)
+Inv-loop numbers places₀ i₀ places i = (places ≡ paste places₀ 0 (placesFrom numbers) i) × (i ≤ placesLong)
 
 abbrev μ-loop : tie.MeasureT-loop
-μ-loop numbers places₀ i₀ places i = 512 - i
+μ-loop numbers places₀ i₀ places i = placesLong - i
 
 no-places-requires : tie.Need-no-places-requires Inv-loop μ-loop
 no-places-requires c κs = search needs
 
 loop-holds : tie.Need-loop-holds Inv-loop μ-loop
-loop-holds c = (paste-zero (c .no-places .result) 0 (table 512 (λ k. getD (c .before .args .numbers .now) (7 + k) (pos 0))), omega arith)
+loop-holds c = (paste-zero (c .no-places .result) 0 (placesFrom (c .before .args .numbers .now)), omega arith)
 
 add-number-at : tie.Need-add-number-at Inv-loop μ-loop
 add-number-at c = omega arith
@@ -52,7 +50,7 @@ returns c =
     let s = c .before .before .before in
     let d = c .before .before .no-places in
     let l = c .before .loop in
-    steps.places-now (d .result) (table 512 (λ k. getD (s .args .numbers .now) (7 + k) (pos 0))) (l .places) (l .i) (d .ensures) (length-table 512 (λ k. getD (s .args .numbers .now) (7 + k) (pos 0))) (l .inv .0) (l .inv .1) (c .loop-test .left)
+    steps.places-now (d .result) (s .args .numbers .now) (l .places) (l .i) (d .ensures) (l .inv .0) (l .inv .1) (c .loop-test .left)
 
 pub places-of-spec : {M : Type 1} → statement M
 places-of-spec =

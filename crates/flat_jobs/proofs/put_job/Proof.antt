@@ -1,6 +1,8 @@
 use native.Mathlib.Omega.{arith}
 use mathlib.Core.Path.{_≡_}
 use lib.ListN.{length}
+use Rattle.model.specs.Promises.{Whole}
+use Rattle.flat_jobs.specs.FlatJobs.{rowLong}
 use Rattle.flat_jobs.proofs.Steps as steps
 use borrow.Author.Needs.{needs}
 use Rattle.flat_jobs.proofs.put_job.Statement.{statement}
@@ -20,27 +22,17 @@ slice-aggregate-put-from-2 c = search needs
 
 put-from-requires-2 : tie.Need-put-from-requires-2
 put-from-requires-2 c κs =
-    let s = c .before .before .before .before .before .before .before .before in
-    let n : length (s .args .job .places) ≡ 512 = search needs in
-    omega (arith, s .pre .1, c .before .before .before .put-from .kept .0)
-
-same-length : tie.Need-same-length
-same-length c = search needs
+    let s = c .before .before .before .before .before .before .before in
+    let w : Whole (s .args .job) = search needs in
+    let l : length (s .args .numbers .now) ≡ rowLong = search needs in
+    omega (arith, w, l, c .before .before .put-from .kept .0)
 
 returns : tie.Need-returns
 returns c =
-    let s = c .before .before .before .before .before .before .before .before .before .before in
-    let n : length (s .args .job .places) ≡ 512 = search needs in
+    let s = c .before .before .before .before .before .before .before .before in
+    let w : Whole (s .args .job) = search needs in
+    let l : length (s .args .numbers .now) ≡ rowLong = search needs in
     search (needs, steps.row-now)
 
 pub put-job-spec : {M : Type 1} → statement M
-put-job-spec =
-    tie.close
-    (tie.spec
-    head-of-requires
-    slice-aggregate-put-from
-    put-from-requires
-    slice-aggregate-put-from-2
-    put-from-requires-2
-    same-length
-    returns)
+put-job-spec = tie.close (tie.spec head-of-requires slice-aggregate-put-from put-from-requires slice-aggregate-put-from-2 put-from-requires-2 returns)

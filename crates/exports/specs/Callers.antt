@@ -1,0 +1,134 @@
+-- The promises to callers in C, from the entries' own and from `row-kept`. Assumes nothing.
+use mathlib.Core.Path.{_≡_, refl, sym, ap, ap₂, _∙_, subst}
+use mathlib.Core.Bool.{Bool, true, false}
+use mathlib.Core.List.{List, [], _∷_, append-nil}
+use Prim.Native.Nat.{ℕ, zero, suc, _*_, _≤_}
+use native.Mathlib.Omega.{arith}
+use lib.Dec.{leb}
+use lib.IntN.{ℤ, pos}
+use lib.ListN.{length, getD, take, drop, length-append, length-drop, length-replicate}
+use lib.Seq.{take-at}
+use borrow.Author.Tests.{le-leb}
+use Rattle.integers.specs.Tests.{le-of}
+use Rattle.model.specs.declared.Job.{Job}
+use Rattle.model.specs.declared.Read.{Read}
+use Rattle.model.specs.Refusals.{edges, range, cell, first, accepted}
+use Rattle.model.specs.Jobs.{coordinate, counted, ranged, celled, judge, zeroJob}
+use Rattle.model.specs.Sheets.{Sheet, lines, broken, joined, edgesAt, jobOf, readSheet, sheetOf}
+use Rattle.model.specs.Store.{width, forest, nodesOf, storeOf, begins}
+use Rattle.model.specs.Entries.{over, readChecks, readAnswer, read, writeRefusal, write, writeLeaves, mapChecks, mapRefusal, map, mapStore, mapCells, pointChecks, pointRefusal}
+use Rattle.model.specs.Promises.{Whole, Kept, MapHolds, Bounds, wholePoint}
+use Rattle.ranges.specs.Refusals.{all-pass, passed-all, accepted-is}
+use Rattle.ranges.specs.Lowest.{read-by}
+use Rattle.subtrees.specs.Preorder.{all-begun}
+use Rattle.subtrees.specs.Begins.{all-begins}
+use Rattle.sheet_text.specs.Places.{fit-length}
+use Rattle.sheet_text.specs.RoundTrips.{sheet-kept, write-read}
+use Rattle.clearance.specs.Demands as demands
+use Rattle.flat_jobs.specs.FlatJobs.{jobFrom, numbersOf}
+use Rattle.flat_jobs.specs.Rows.{from-whole, row-kept}
+use Rattle.exports.specs.Rows.{readLeaves, bytesLeft, Answered}
+use Rattle.exports.specs.Promises.{ReadNumbers, RowRead, sheetLeft, SheetBack, RowBack, DrawnFrom, ReadMapPoint}
+
+-- ---- reading
+own-four : (a b c : Bool) → first ((edges, a) ∷ (range, b) ∷ (cell, c) ∷ []) ≤ 4
+own-four false b c = omega arith
+own-four true false c = omega arith
+own-four true true false = omega arith
+own-four true true true = omega arith
+
+checks-four : (s : Sheet) → first (readChecks s) ≤ 4
+checks-four (lines gs) = own-four (counted (jobOf gs)) (ranged (jobOf gs)) (celled (jobOf gs))
+checks-four broken = omega arith
+
+pub read-numbers : ReadNumbers
+read-numbers sheet = omega (arith, read-by sheet, checks-four (readSheet sheet))
+
+accepted-whole : (n : ℕ) (j : Job) → Whole j → Whole (accepted n j zeroJob)
+unfolding accepted
+accepted-whole zero j w = w
+accepted-whole (suc n) j w = length-replicate 512 (pos 0)
+
+answer-whole : (s : Sheet) → Whole (readAnswer s .job)
+unfolding readAnswer
+answer-whole (lines gs) = accepted-whole (judge (jobOf gs)) (jobOf gs) (fit-length 512 (joined (getD gs edgesAt [])))
+answer-whole broken = length-replicate 512 (pos 0)
+
+read-whole : (sheet : List ℕ) → Whole (read sheet .job)
+unfolding read
+read-whole sheet = answer-whole (readSheet sheet)
+
+pub row-read : RowRead
+unfolding readLeaves
+row-read sheet row h =
+    ap jobFrom (accepted-is (read sheet .refusal) (numbersOf (read sheet .job)) row h ∙ sym (append-nil (numbersOf (read sheet .job))))
+    ∙ row-kept (read sheet .job) [] (read-whole sheet)
+
+-- ---- the round trips
+count-left : (j : Job) (out : List ℕ) (count : ℕ) → write j out .refusal ≡ 0 → bytesLeft j out count ≡ write j out .bytes
+unfolding bytesLeft
+count-left j out count h = accepted-is (write j out .refusal) (write j out .bytes) count h
+
+sheet-left : (j : Job) (out : List ℕ) → write j out .refusal ≡ 0 → take (write j out .bytes) (writeLeaves j out) ≡ sheetOf j
+unfolding write writeLeaves
+sheet-left j out h =
+    ap₂ take (accepted-is (writeRefusal j out) (length (sheetOf j)) 0 h) (accepted-is (writeRefusal j out) (over (sheetOf j) out) out h)
+    ∙ take-at (sheetOf j) (drop (length (sheetOf j)) out) (length (sheetOf j)) refl
+
+pub sheet-back : SheetBack
+sheet-back sheet row out count h k =
+    let j : Job = jobFrom (readLeaves sheet row) in
+    subst (Kept sheet)
+    (sym (ap (λ (n : ℕ). take n (writeLeaves j out)) (count-left j out count k) ∙ sheet-left j out k ∙ ap sheetOf (row-read sheet row h)))
+    (sheet-kept sheet h)
+
+pub row-back : RowBack
+row-back row other out count h =
+    let j : Job = jobFrom row in
+    let again = ap (λ (n : ℕ). read (take n (writeLeaves j out))) (count-left j out count h) ∙ write-read j out (from-whole row) h in
+    let taken = ap (λ (r : Read). r .refusal) again in (taken, row-read (sheetLeft row out count) other taken ∙ ap (λ (r : Read). r .job) again)
+
+-- ---- the store that an accepted map leaves begins with the job's trees, and has room for them
+module _ (j : Job) (store : List ℤ) (cells : List ℕ) (h : mapRefusal j store cells ≡ 0) where
+  trees-left : mapStore j store cells ≡ over (storeOf j) store
+  unfolding mapStore
+  trees-left = accepted-is (mapRefusal j store cells) (over (storeOf j) store) store h
+
+  still-room : width * nodesOf j ≤ length store → leb (width * nodesOf j) (length (over (storeOf j) store)) ≡ true
+  still-room k = le-leb (width * nodesOf j) (length (over (storeOf j) store)) (simp (length-append, length-drop) (omega arith))
+
+  begun : begins (over (storeOf j) store) (storeOf j) ≡ true
+  begun = all-begins (forest j) (over (storeOf j) store) (all-begun (over (storeOf j) store) (drop (length (storeOf j)) store) (forest j) refl)
+
+  -- so a point in range is answered from it
+  point-passes : (x y : ℤ) → coordinate x ≡ true → coordinate y ≡ true → pointRefusal j x y (mapStore j store cells) ≡ 0
+  unfolding pointRefusal mapRefusal
+  point-passes x y hx hy =
+      let p = passed-all (mapChecks j store cells) h in
+      let room = still-room (le-of (width * nodesOf j) (length store) (p .1 .1 .1 .1 .0)) in
+      subst (λ (s : List ℤ). first (pointChecks j x y s) ≡ 0) (sym trees-left)
+      (all-pass (pointChecks j x y (over (storeOf j) store)) (p .0, (p .1 .0, (rw (hx, hy), (p .1 .1 .0, (p .1 .1 .1 .0, (room, (begun, tt))))))))
+
+  -- and its numbers are the bounds
+  pub point-drawn : (x y : ℤ) (old : List ℤ) (refusal : ℕ) (numbers : List ℤ) → coordinate x ≡ true → coordinate y ≡ true → Answered j x y (mapStore j store cells) old refusal numbers → (refusal ≡ 0) × Bounds j (wholePoint x y) (getD numbers 0 (pos 0)) (getD numbers 1 (pos 0))
+  point-drawn x y old refusal numbers hx hy a =
+      let n = a .nearest in
+      let z : n .refusal ≡ 0 = a .is-nearest .refusal-is ∙ point-passes x y hx hy in
+      let zero-given : refusal ≡ 0 = a .refusal-is ∙ z in
+      let told : numbers ≡ n .lo ∷ n .hi ∷ pos (n .edge) ∷ [] = a .numbers-are ∙ accepted-is (n .refusal) (n .lo ∷ n .hi ∷ pos (n .edge) ∷ []) old z in (
+        zero-given,
+        subst (λ (vs : List ℤ). Bounds j (wholePoint x y) (getD vs 0 (pos 0)) (getD vs 1 (pos 0))) (sym told) (a .bounds zero-given),
+      )
+
+-- ---- read, map, point
+pub read-map-point : ReadMapPoint
+read-map-point sheet row store cells h k =
+    let j : Job = jobFrom (readLeaves sheet row) in
+    let e = row-read sheet row h in
+    let z : mapRefusal j store cells ≡ 0 = unfold map in k in
+    record {
+      map-holds = subst (λ (i : Job). MapHolds i (mapCells j store cells)) e (demands.map-holds j store cells k);
+      answered = λ x y old refusal numbers hx hy a.
+          let p = point-drawn j store cells z x y old refusal numbers hx hy a in
+          (p .0, subst (λ (i : Job). Bounds i (wholePoint x y) (getD numbers 0 (pos 0)) (getD numbers 1 (pos 0))) e (p .1));
+    }

@@ -1,0 +1,44 @@
+-- What a caller in C has of calls one after the other, each promise as a named statement; `Callers` proves them. A row, a store, a map, a
+-- sheet and a count that stand here without more are what was there before a call. Assumes nothing.
+use mathlib.Core.Path.{_≡_}
+use mathlib.Core.Bool.{true}
+use mathlib.Core.List.{List}
+use Prim.Native.Nat.{ℕ, _≤_}
+use lib.IntN.{ℤ, pos}
+use lib.ListN.{getD, take}
+use Rattle.model.specs.Jobs.{coordinate}
+use Rattle.model.specs.Entries.{read, write, writeLeaves, map, mapStore, mapCells}
+use Rattle.model.specs.Promises.{Kept, MapHolds, Bounds, wholePoint}
+use Rattle.flat_jobs.specs.FlatJobs.{jobFrom}
+use Rattle.exports.specs.Rows.{readLeaves, bytesLeft, Answered}
+
+-- a sheet is accepted, or refused with 1 to 4
+abbrev pub ReadNumbers : Type 0
+ReadNumbers = (sheet : List ℕ) → read sheet .refusal ≤ 4
+
+-- the row that an accepted read leaves stands for the job that was read
+abbrev pub RowRead : Type 0
+RowRead = (sheet : List ℕ) (row : List ℤ) → read sheet .refusal ≡ 0 → jobFrom (readLeaves sheet row) ≡ read sheet .job
+
+-- ---- the round trips
+-- the bytes at the front of `out` that writing a row tells of
+abbrev pub sheetLeft : List ℤ → List ℕ → ℕ → List ℕ
+sheetLeft row out count = take (bytesLeft (jobFrom row) out count) (writeLeaves (jobFrom row) out)
+
+-- a sheet read into a row and written again keeps its bytes, but for a line that states the default grain
+abbrev pub SheetBack : Type 0
+SheetBack = (sheet : List ℕ) (row : List ℤ) (out : List ℕ) (count : ℕ) → read sheet .refusal ≡ 0 → write (jobFrom (readLeaves sheet row)) out .refusal ≡ 0 → Kept sheet (sheetLeft (readLeaves sheet row) out count)
+
+-- what was written of a row is accepted, and the row that it is read into stands for the same job
+abbrev pub RowBack : Type 0
+RowBack = (row other : List ℤ) (out : List ℕ) (count : ℕ) → write (jobFrom row) out .refusal ≡ 0 → (read (sheetLeft row out count) .refusal ≡ 0) × (jobFrom (readLeaves (sheetLeft row out count) other) ≡ jobFrom row)
+
+-- ---- read, map, point
+-- of a sheet that was read and the row then drawn, both accepted: demand 3 holds of the map for the job that was read; and asked with the
+-- store that drawing left, each point in range has an answer, which bounds its distance from that job's outline
+pub record DrawnFrom (sheet : List ℕ) (row store : List ℤ) (cells : List ℕ) : Type 0 where
+  pub map-holds : MapHolds (read sheet .job) (mapCells (jobFrom (readLeaves sheet row)) store cells)
+  pub answered : (x y : ℤ) (old : List ℤ) (refusal : ℕ) (numbers : List ℤ) → coordinate x ≡ true → coordinate y ≡ true → Answered (jobFrom (readLeaves sheet row)) x y (mapStore (jobFrom (readLeaves sheet row)) store cells) old refusal numbers → (refusal ≡ 0) × Bounds (read sheet .job) (wholePoint x y) (getD numbers 0 (pos 0)) (getD numbers 1 (pos 0))
+
+abbrev pub ReadMapPoint : Type 0
+ReadMapPoint = (sheet : List ℕ) (row store : List ℤ) (cells : List ℕ) → read sheet .refusal ≡ 0 → map (jobFrom (readLeaves sheet row)) store cells .refusal ≡ 0 → DrawnFrom sheet row store cells
