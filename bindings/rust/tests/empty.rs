@@ -16,13 +16,18 @@ fn empty_slices<T: Default + Clone>() -> Vec<Vec<T>> {
     vec![Vec::new(), vec![], vec![T::default(); 9].split_off(9)]
 }
 
+/// The address that a call is given for a slice.
+fn address<T>(slice: &[T]) -> usize {
+    slice.as_ptr().addr()
+}
+
 #[test]
 fn an_empty_slice_is_never_null() {
-    let (nothing, part): (&[u8], &[i32]) = (&[], &[1, 2][2..]);
-    assert!(!nothing.as_ptr().is_null() && !part.as_ptr().is_null());
-    assert!(!<&mut [u8]>::default().as_ptr().is_null());
-    assert!(empty_slices::<u8>().iter().all(|v| !v.as_ptr().is_null()));
-    assert!(empty_slices::<i32>().iter().all(|v| !v.as_ptr().is_null()));
+    assert_ne!(address::<u8>(&[]), 0);
+    assert_ne!(address(&[1, 2][2..]), 0);
+    assert_ne!(address(<&mut [u8]>::default()), 0);
+    assert!(empty_slices::<u8>().iter().all(|v| address(v) != 0));
+    assert!(empty_slices::<i32>().iter().all(|v| address(v) != 0));
 }
 
 #[test]

@@ -1,7 +1,7 @@
 -- The promises to callers in C, from the entries' own and from `row-kept`. Assumes nothing.
 use mathlib.Core.Path.{_≡_, refl, sym, ap, ap₂, _∙_, subst}
 use mathlib.Core.Bool.{Bool, true, false}
-use mathlib.Core.List.{List, [], _∷_, append-nil}
+use mathlib.Core.List.{List, [], _∷_, _++_, append-nil}
 use Prim.Native.Nat.{ℕ, zero, suc, _*_, _≤_}
 use native.Mathlib.Omega.{arith}
 use lib.Dec.{leb}
@@ -25,7 +25,7 @@ use Rattle.subtrees.specs.Begins.{all-begins}
 use Rattle.sheet_text.specs.Places.{fit-length}
 use Rattle.sheet_text.specs.RoundTrips.{sheet-kept, write-read}
 use Rattle.clearance.specs.Demands as demands
-use Rattle.flat_jobs.specs.FlatJobs.{jobFrom, numbersOf}
+use Rattle.flat_jobs.specs.FlatJobs.{placesLong, jobFrom, numbersOf}
 use Rattle.flat_jobs.specs.Rows.{from-whole, row-kept}
 use Rattle.exports.specs.Rows.{readLeaves, bytesLeft, Answered}
 use Rattle.exports.specs.Promises.{ReadNumbers, RowRead, sheetLeft, SheetBack, RowBack, DrawnFrom, ReadMapPoint}
@@ -47,12 +47,12 @@ read-numbers sheet = omega (arith, read-by sheet, checks-four (readSheet sheet))
 accepted-whole : (n : ℕ) (j : Job) → Whole j → Whole (accepted n j zeroJob)
 unfolding accepted
 accepted-whole zero j w = w
-accepted-whole (suc n) j w = length-replicate 512 (pos 0)
+accepted-whole (suc n) j w = length-replicate placesLong (pos 0)
 
 answer-whole : (s : Sheet) → Whole (readAnswer s .job)
 unfolding readAnswer
-answer-whole (lines gs) = accepted-whole (judge (jobOf gs)) (jobOf gs) (fit-length 512 (joined (getD gs edgesAt [])))
-answer-whole broken = length-replicate 512 (pos 0)
+answer-whole (lines gs) = accepted-whole (judge (jobOf gs)) (jobOf gs) (fit-length placesLong (joined (getD gs edgesAt [])))
+answer-whole broken = length-replicate placesLong (pos 0)
 
 read-whole : (sheet : List ℕ) → Whole (read sheet .job)
 unfolding read
@@ -60,9 +60,13 @@ read-whole sheet = answer-whole (readSheet sheet)
 
 pub row-read : RowRead
 unfolding readLeaves
-row-read sheet row h =
-    ap jobFrom (accepted-is (read sheet .refusal) (numbersOf (read sheet .job)) row h ∙ sym (append-nil (numbersOf (read sheet .job))))
-    ∙ row-kept (read sheet .job) [] (read-whole sheet)
+row-read sheet row rest h =
+    ap (λ (vs : List ℤ). jobFrom (vs ++ rest)) (accepted-is (read sheet .refusal) (numbersOf (read sheet .job)) row h)
+    ∙ row-kept (read sheet .job) rest (read-whole sheet)
+
+-- the same of the row by itself
+row-job : (sheet : List ℕ) (row : List ℤ) → read sheet .refusal ≡ 0 → jobFrom (readLeaves sheet row) ≡ read sheet .job
+row-job sheet row h = ap jobFrom (sym (append-nil (readLeaves sheet row))) ∙ row-read sheet row [] h
 
 -- ---- the round trips
 count-left : (j : Job) (out : List ℕ) (count : ℕ) → write j out .refusal ≡ 0 → bytesLeft j out count ≡ write j out .bytes
@@ -79,14 +83,14 @@ pub sheet-back : SheetBack
 sheet-back sheet row out count h k =
     let j : Job = jobFrom (readLeaves sheet row) in
     subst (Kept sheet)
-    (sym (ap (λ (n : ℕ). take n (writeLeaves j out)) (count-left j out count k) ∙ sheet-left j out k ∙ ap sheetOf (row-read sheet row h)))
+    (sym (ap (λ (n : ℕ). take n (writeLeaves j out)) (count-left j out count k) ∙ sheet-left j out k ∙ ap sheetOf (row-job sheet row h)))
     (sheet-kept sheet h)
 
 pub row-back : RowBack
 row-back row other out count h =
     let j : Job = jobFrom row in
     let again = ap (λ (n : ℕ). read (take n (writeLeaves j out))) (count-left j out count h) ∙ write-read j out (from-whole row) h in
-    let taken = ap (λ (r : Read). r .refusal) again in (taken, row-read (sheetLeft row out count) other taken ∙ ap (λ (r : Read). r .job) again)
+    let taken = ap (λ (r : Read). r .refusal) again in (taken, row-job (sheetLeft row out count) other taken ∙ ap (λ (r : Read). r .job) again)
 
 -- ---- the store that an accepted map leaves begins with the job's trees, and has room for them
 module _ (j : Job) (store : List ℤ) (cells : List ℕ) (h : mapRefusal j store cells ≡ 0) where
@@ -124,7 +128,7 @@ module _ (j : Job) (store : List ℤ) (cells : List ℕ) (h : mapRefusal j store
 pub read-map-point : ReadMapPoint
 read-map-point sheet row store cells h k =
     let j : Job = jobFrom (readLeaves sheet row) in
-    let e = row-read sheet row h in
+    let e = row-job sheet row h in
     let z : mapRefusal j store cells ≡ 0 = unfold map in k in
     record {
       map-holds = subst (λ (i : Job). MapHolds i (mapCells j store cells)) e (demands.map-holds j store cells k);

@@ -2,7 +2,7 @@
 -- sheet and a count that stand here without more are what was there before a call. Assumes nothing.
 use mathlib.Core.Path.{_≡_}
 use mathlib.Core.Bool.{true}
-use mathlib.Core.List.{List}
+use mathlib.Core.List.{List, _++_}
 use Prim.Native.Nat.{ℕ, _≤_}
 use lib.IntN.{ℤ, pos}
 use lib.ListN.{getD, take}
@@ -16,9 +16,9 @@ use Rattle.exports.specs.Rows.{readLeaves, bytesLeft, Answered}
 abbrev pub ReadNumbers : Type 0
 ReadNumbers = (sheet : List ℕ) → read sheet .refusal ≤ 4
 
--- the row that an accepted read leaves stands for the job that was read
+-- the row that an accepted read leaves stands for the job that was read, whatever is lent with it behind its end
 abbrev pub RowRead : Type 0
-RowRead = (sheet : List ℕ) (row : List ℤ) → read sheet .refusal ≡ 0 → jobFrom (readLeaves sheet row) ≡ read sheet .job
+RowRead = (sheet : List ℕ) (row rest : List ℤ) → read sheet .refusal ≡ 0 → jobFrom (readLeaves sheet row ++ rest) ≡ read sheet .job
 
 -- ---- the round trips
 -- the bytes at the front of `out` that writing a row tells of
