@@ -1,7 +1,7 @@
 //! A job lent as a row of numbers, whole, short or long.
 
 use crate::lent::Lent;
-use crate::numbers::Numbers;
+use crate::numbers::{Numbers, PLACE, PLACES};
 use crate::random::Random;
 
 /// The lent row and the job that it stands for.
@@ -25,7 +25,7 @@ impl Row {
                 Lent::holding(&job[..length], salt)
             }
             2 => {
-                let length = random.choose(&[0, 6, 7, 15, whole - 1]);
+                let length = random.choose(&[0, PLACES - 1, PLACES, PLACES + PLACE, whole - 1]);
                 let any = random.below(whole);
                 Lent::cut(job, random.choose(&[length, any]), salt)
             }
