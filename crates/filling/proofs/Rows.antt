@@ -1,4 +1,4 @@
--- Rows of an n by n map: a filled stretch of one row, seen from each cell. Assumes nothing.
+-- Rows of n bytes: a filled stretch of one row, seen from each cell. Assumes nothing.
 use mathlib.Core.Path.{_≡_, refl, _∙_}
 use mathlib.Core.Bool.{Bool, true, false, _&&_, cond}
 use mathlib.Core.List.{List}
@@ -21,8 +21,9 @@ below? a b = go (ltb a b) refl
     go true e = inl (ltb-true a b e)
     go false e = inr (ltb-false a b e)
 
-pub row-end : (j n : ℕ) → j < n → j * n + n ≤ n * n
-row-end j n h = omega (arith, mul-le-mul-right n h)
+-- a row below row e ends where row e begins, or before
+pub row-end : (j e n : ℕ) → j < e → j * n + n ≤ e * n
+row-end j e n h = omega (arith, mul-le-mul-right n h)
 
 -- a part that was filled
 pub part-fill : (l ys : List ℕ) (a w b : ℕ) → a + w ≤ length l → ys ≡ replicate (length (midOf a (a + w - a) l)) b →
@@ -32,9 +33,9 @@ part-fill l ys a w b h e =
     rw (e, mid-len a (a + w) l h, post-is a (a + w) l (omega arith), z)
 
 -- a filled stretch of row j, seen from cell (i, y)
-module _ (l : List ℕ) (n j c w b i y : ℕ) (i< : i < n) (j< : j < n) (y< : y < n) (cw : c + w ≤ n) (room : n * n ≤ length l) where
+module _ (l : List ℕ) (n j c w b i y : ℕ) (i< : i < n) (cw : c + w ≤ n) (room : j * n + n ≤ length l) where
   fits : j * n + c + w ≤ length l
-  fits = omega (arith, row-end j n j<)
+  fits = omega arith
 
   row-in : y ≡ j → c ≤ i → i < c + w → getD (filled 0 l (j * n + c) w b) (y * n + i) 0 ≡ b
   row-in e p q = rw e (in-stretch 0 l (j * n + c) w b (j * n + i) fits (omega arith) (omega arith))
@@ -84,9 +85,3 @@ and-false false = refl
 pub no-row : (t : Bool) (r y b x : ℕ) → x ≡ cond (t && (leb r y && ltb y r)) b x
 no-row t r y b x =
     ⊎-elim (λ (h : y < r). rw (lt-leb r y h, and-false t)) (λ (h : r ≤ y). rw (le-leb r y h, le-ltb y r h, and-false t)) (below? y r)
-
--- a filled stretch of row j leaves what lies past the map
-pub row-past : (l : List ℕ) (n j c w b k : ℕ) → j < n → c + w ≤ n → n * n ≤ length l → n * n ≤ k →
-    getD (filled 0 l (j * n + c) w b) k 0 ≡ getD l k 0
-row-past l n j c w b k j< cw room h =
-    after-stretch 0 l (j * n + c) w b k (omega (arith, row-end j n j<)) (omega (arith, row-end j n j<))

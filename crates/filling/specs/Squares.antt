@@ -21,7 +21,6 @@ pub record In (c r w i j : ℕ) : Type 0 where
 abbrev pub over : (ℕ → ℕ → ℕ) → ℕ → ℕ → ℕ → ℕ → ℕ → ℕ → ℕ
 over f c r w i j old = cond (among c w i && among r w j) (f i j) old
 
--- each cell of an n by n map, row by row, is what g makes of what it was, and what lies past the map is as it was
+-- of bytes held in rows of n, each cell is what g makes of what it was; rows past the end have none
 pub record Drawn (n : ℕ) (new old : List ℕ) (g : ℕ → ℕ → ℕ → ℕ) : Type 0 where
-  pub cells : (i j : ℕ) → i < n → j < n → getD new (j * n + i) 0 ≡ g i j (getD old (j * n + i) 0)
-  pub past : (k : ℕ) → n * n ≤ k → getD new k 0 ≡ getD old k 0
+  pub cells : (i j : ℕ) → i < n → getD new (j * n + i) 0 ≡ g i j (getD old (j * n + i) 0)

@@ -1,6 +1,6 @@
-// Squares of a map that is held row by row, n bytes a row: a stretch of bytes, of a row, of a square, filled with one byte.
+// Squares of bytes that are held in rows of n, as many rows as there are: a stretch of bytes, of a row, of a square, filled with one byte.
 ghost use mathlib.Core.Path.{_≡_};
-ghost use Prim.Native.Nat.{_+_, _*_, _≤_, _<_};
+ghost use Prim.Native.Nat.{_+_, _*_, _≤_};
 ghost use lib.ListN.{length, replicate};
 ghost use Rattle.sequences.specs.Stretches.{filled};
 ghost use Rattle.filling.specs.Squares.{over, Drawn};
@@ -18,7 +18,7 @@ fn fill(s: &mut [u8], b: u8)
 
 // w bytes from column c of row j become b
 fn fill_row(map: &mut [u8], n: usize, j: usize, c: usize, w: usize, b: u8)
-    requires within { ⌜ (n ≤ 256) × (j < n) × (c + w ≤ n) × (n * n ≤ length (now map)) ⌝ }
+    requires within { ⌜ (c + w ≤ n) × (j * n + n ≤ length (now map)) ⌝ }
     ensures stretch { λ _. ⌜ now (map .exit) ≡ filled 0 (now (map .entry)) (j * n + c) w b ⌝ }
 {
     let a = j * n + c;
@@ -28,7 +28,7 @@ fn fill_row(map: &mut [u8], n: usize, j: usize, c: usize, w: usize, b: u8)
 
 // the square of w columns from column c and w rows from row r becomes b
 pub fn fill_square(map: &mut [u8], n: usize, c: usize, r: usize, w: usize, b: u8)
-    requires within { ⌜ (n ≤ 256) × (c + w ≤ n) × (r + w ≤ n) × (n * n ≤ length (now map)) ⌝ }
+    requires within { ⌜ (c + w ≤ n) × (r + w ≤ 256) × ((r + w) * n ≤ length (now map)) ⌝ }
     ensures square { λ _. ⌜ Drawn n (now (map .exit)) (now (map .entry)) (over (λ i j. b) c r w) ⌝ }
 {
     let end = r + w;

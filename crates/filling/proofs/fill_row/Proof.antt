@@ -2,18 +2,18 @@
 use borrow.Author.Needs.{needs}
 use Prim.Native.Nat.{_+_, _*_}
 use native.Mathlib.Omega.{arith}
-use Rattle.filling.proofs.Rows.{row-end, part-fill}
+use Rattle.filling.proofs.Rows.{part-fill}
 use Rattle.filling.proofs.fill_row.Statement.{statement}
 use Rattle.filling.proofs.fill_row.Tie as tie
 
 mul-a : tie.Need-mul-a
-mul-a c = omega (arith, row-end (c .before .args .j) (c .before .args .n) (c .before .pre .1))
+mul-a c = omega arith
 
 add-a : tie.Need-add-a
-add-a c = omega (arith, row-end (c .before .args .j) (c .before .args .n) (c .before .pre .1))
+add-a c = omega arith
 
 add-e : tie.Need-add-e
-add-e c = omega (arith, row-end (c .before .args .j) (c .before .args .n) (c .before .pre .1))
+add-e c = omega arith
 
 sub-fill : tie.Need-sub-fill
 sub-fill c = search needs
@@ -22,7 +22,7 @@ part-fill-start : tie.Need-part-fill-start
 part-fill-start c = search needs
 
 part-fill-end : tie.Need-part-fill-end
-part-fill-end c = omega (arith, row-end (c .before .args .j) (c .before .args .n) (c .before .pre .1))
+part-fill-end c = omega arith
 
 fill-requires : tie.Need-fill-requires
 fill-requires c κs = search needs
@@ -34,7 +34,7 @@ returns : tie.Need-returns
 returns c =
     let s = c .before .before .before .before .before in
     part-fill (s .args .map .now) (c .before .before .fill .last .0) (s .args .j * s .args .n + s .args .c) (s .args .w) (s .args .b)
-    (omega (arith, row-end (s .args .j) (s .args .n) (s .pre .1)))
+    (omega arith)
     (c .before .before .fill .ensures)
 
 pub fill-row-spec : {M : Type 1} → statement M

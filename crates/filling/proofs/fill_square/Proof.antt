@@ -6,7 +6,7 @@ use native.Mathlib.Omega.{arith}
 use lib.Dec.{leb, ltb}
 use lib.ListN.{length, getD}
 use Rattle.filling.specs.Squares.{among, Drawn}
-use Rattle.filling.proofs.Rows.{one-row, no-row, row-past}
+use Rattle.filling.proofs.Rows.{row-end, one-row, no-row}
 use Rattle.filling.proofs.fill_square.Statement.{statement}
 use Rattle.filling.proofs.fill_square.Tie as tie
 
@@ -23,13 +23,13 @@ add-end c = omega arith
 loop-holds : tie.Need-loop-holds Inv-loop μ-loop
 loop-holds c =
     let a = c .before .args in
-    (refl, omega arith, omega arith, refl, record { cells = λ i y _ _. no-row (among (a .c) (a .w) i) (a .r) y (a .b) (getD (a .map .now) (y * a .n + i) 0); past = λ k h. refl })
+    (refl, omega arith, omega arith, refl, record { cells = λ i y _. no-row (among (a .c) (a .w) i) (a .r) y (a .b) (getD (a .map .now) (y * a .n + i) 0) })
 
 fill-row-requires : tie.Need-fill-row-requires Inv-loop μ-loop
 fill-row-requires c κs =
     let s = c .before .before .before .before in
     let l = c .before .before .loop in
-    (s .pre .0, omega arith, s .pre .1, omega (arith, l .inv .3, s .pre .3))
+    (s .pre .0, omega (arith, l .inv .3, s .pre .2, row-end (l .j) (s .args .r + s .args .w) (s .args .n) (omega arith)))
 
 add-j : tie.Need-add-j Inv-loop μ-loop
 add-j c = omega arith
@@ -48,10 +48,9 @@ loop-again c =
       omega arith,
       f .kept .0 ∙ l .inv .3,
       record {
-        cells = λ i y i< y<.
+        cells = λ i y i<.
             rw (f .ensures)
-            (one-row (l .map) (a .n) (l .j) (a .c) (a .w) (a .b) i y i< (omega arith) y< (s .pre .1) (omega (arith, l .inv .3, s .pre .3)) (a .r) (getD (a .map .now) (y * a .n + i) 0) (omega arith) (l .inv .4 .cells i y i< y<));
-        past = λ k h. rw (f .ensures) (row-past (l .map) (a .n) (l .j) (a .c) (a .w) (a .b) k (omega arith) (s .pre .1) (omega (arith, l .inv .3, s .pre .3)) h ∙ l .inv .4 .past k h);
+            (one-row (l .map) (a .n) (l .j) (a .c) (a .w) (a .b) i y i< (s .pre .0) (omega (arith, l .inv .3, s .pre .2, row-end (l .j) (a .r + a .w) (a .n) (omega arith))) (a .r) (getD (a .map .now) (y * a .n + i) 0) (omega arith) (l .inv .4 .cells i y i<));
       },
     )
 
@@ -63,7 +62,7 @@ returns c =
     let l = c .before .loop in
     let a = c .before .before .before .args in
     let e : l .j ≡ a .r + a .w = omega arith in
-    record { cells = λ i y i< y<. rw e at (l .inv .4 .cells i y i< y<); past = l .inv .4 .past }
+    record { cells = λ i y i<. rw e at (l .inv .4 .cells i y i<) }
 
 pub fill-square-spec : {M : Type 1} → statement M
 fill-square-spec =
