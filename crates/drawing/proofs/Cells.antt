@@ -32,7 +32,7 @@ single n c w Q h k = le-trans (mul-le-mul-right Q (part n c w k)) h
     part : (n c w : ℕ) → c + w ≤ n → w ≤ n
     part n c w k = omega arith
 
-middle-size : (x q : ℤ) (n c w : ℕ) → natAbs x ≤ 16777216 → n * natAbs q ≤ 8388608 → c + w ≤ n → natAbs (middle x q c w) ≤ 536870912
+middle-size : (x q : ℤ) (n c w : ℕ) → natAbs x ≤ 33554432 → n * natAbs q ≤ 8388608 → c + w ≤ n → natAbs (middle x q c w) ≤ 536870912
 middle-size x q n c w hx h k = omega (arith, natAbs-add x (pos (2 * c + w) *ℤ q), natAbs-mul (pos (2 * c + w)) q, doubled n c w (natAbs q) h k)
 
 pub nonneg-times : (k : ℕ) (q : ℤ) → T (nonNeg q) → T (nonNeg (pos k *ℤ q))
@@ -67,7 +67,7 @@ module _ (f : Frame) (s : FrameSized f) where
 abbrev bits : ℤ → ℤ
 bits z = toZ w64 (ofZ w64 z)
 
-pub middle-asked : (x q : ℤ) (n c w : ℕ) → bits x ≡ x → bits q ≡ q → n ≤ 256 → natAbs x ≤ 16777216 → T (nonNeg q) → n * natAbs q ≤ 8388608 → c + w ≤ n → (natAbs (bits x) ≤ 16777216) × T (nonNeg (bits q)) × (2 * c + w ≤ 512) × ((2 * c + w) * natAbs (bits q) ≤ 16777216)
+pub middle-asked : (x q : ℤ) (n c w : ℕ) → bits x ≡ x → bits q ≡ q → n ≤ 256 → natAbs x ≤ 33554432 → T (nonNeg q) → n * natAbs q ≤ 8388608 → c + w ≤ n → (natAbs (bits x) ≤ 33554432) × T (nonNeg (bits q)) × (2 * c + w ≤ 512) × ((2 * c + w) * natAbs (bits q) ≤ 16777216)
 middle-asked x q n c w ex eq hn hx hq h k = rw (ex, eq) (hx, hq, omega arith, doubled n c w (natAbs q) h k)
 
 pub half-asked : (q : ℤ) (n c w : ℕ) → bits q ≡ q → n ≤ 256 → T (nonNeg q) → n * natAbs q ≤ 8388608 → c + w ≤ n → T (nonNeg (bits q)) × (w ≤ 256) × (w * natAbs (bits q) ≤ 8388608)

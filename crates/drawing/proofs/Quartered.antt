@@ -47,17 +47,15 @@ ready-quarter {f = f} {c = c} {r = r} {w = w} p keep kept l k s x y h q hx hy = 
 -- ---- a square that was drawn one way was drawn the other, where both agree in it
 pub drawn-agree : (n : ℕ) (new old : List ℕ) (g k : ℕ → ℕ → ℕ) (c r w : ℕ) → Drawn n new old (over g c r w) → ((i j : ℕ) → In c r w i j → g i j ≡ k i j) → Drawn n new old (over k c r w)
 drawn-agree n new old g k c r w d e = record {
-  cells = λ i j i< j<. d .cells i j i< j< ∙ over-agree g k c r w i j (getD old (j * n + i) 0) (e i j);
-  past = d .past;
+  cells = λ i j i<. d .cells i j i< ∙ over-agree g k c r w i j (getD old (j * n + i) 0) (e i j);
 }
 
 -- four quarters, one after the other
 pub drawn-quarters : (n : ℕ) (old m₁ m₂ m₃ new : List ℕ) (g : ℕ → ℕ → ℕ) (c r w h : ℕ) → w ≡ 2 * h → Drawn n m₁ old (over g c r h) → Drawn n m₂ m₁ (over g (c + h) r h) → Drawn n m₃ m₂ (over g c (r + h) h) → Drawn n new m₃ (over g (c + h) (r + h) h) → Drawn n new old (over g c r w)
 drawn-quarters n old m₁ m₂ m₃ new g c r w h e d₁ d₂ d₃ d₄ = record {
-  cells = λ i j i< j<.
-      d₄ .cells i j i< j<
-      ∙ ap (λ x. over g (c + h) (r + h) h i j x) (d₃ .cells i j i< j< ∙ ap (λ x. over g c (r + h) h i j x) (d₂ .cells i j i< j< ∙ ap (λ x. over g (c + h) r h i j x) (d₁ .cells i j i< j<)))
+  cells = λ i j i<.
+      d₄ .cells i j i<
+      ∙ ap (λ x. over g (c + h) (r + h) h i j x) (d₃ .cells i j i< ∙ ap (λ x. over g c (r + h) h i j x) (d₂ .cells i j i< ∙ ap (λ x. over g (c + h) r h i j x) (d₁ .cells i j i<)))
       ∙ quarters g c r h i j (getD old (j * n + i) 0)
       ∙ ap (λ v. over g c r v i j (getD old (j * n + i) 0)) (sym e);
-  past = λ k l. d₄ .past k l ∙ d₃ .past k l ∙ d₂ .past k l ∙ d₁ .past k l;
 }

@@ -1,19 +1,27 @@
 -- What a block of the map asks, and the letter of one smallest cell by its own answer. Assumes nothing.
 use mathlib.Core.List.{List}
-use Prim.Native.Nat.{ℕ, _-_, _*_, _^_}
-use lib.IntN.{ℤ, pos, _*ℤ_}
+use Prim.Native.Nat.{ℕ, _*_, _^_}
+use lib.IntN.{pos, _+ℤ_, _*ℤ_}
+use Rattle.model.specs.declared.Job.{Job}
+use Rattle.model.specs.Jobs.{cellLog}
 use Rattle.model.specs.Strips.{Strip}
 use Rattle.model.specs.Trees.{Tree}
 use Rattle.model.specs.Explore.{Answer, verdict, exploreAll}
-use Rattle.model.specs.Plates.{doubtful, letter, settled}
+use Rattle.model.specs.Plates.{doubtful, letter, settled, columns}
 use Rattle.inheritance.specs.Blocks.{block}
 use Rattle.drawing.specs.declared.Frame.{Frame}
 
--- the frame of a job's map, from the job's numbers: corner, N, M and reach
-abbrev pub frameOf : ℤ → ℤ → ℕ → ℕ → ℤ → Frame
-frameOf x y n m reach = record { n = 2 ^ (n - m); x = pos 16 *ℤ x; y = pos 16 *ℤ y; q = pos (8 * 2 ^ m); reach = pos 16 *ℤ reach }
+-- the frame of the rows of a job's map from one row on; from row 0 it is that of the whole map
+abbrev pub frameOf : Job → ℕ → Frame
+frameOf j row = record {
+  n = columns j;
+  x = pos 16 *ℤ j .x;
+  y = pos 16 *ℤ j .y +ℤ pos (2 * row) *ℤ pos (8 * 2 ^ cellLog j);
+  q = pos (8 * 2 ^ cellLog j);
+  reach = pos 16 *ℤ j .reach;
+}
 
--- how the block of w by w smallest cells at column c and row r judges a strip
+-- how the block of w by w smallest cells at column c and row r of the frame judges a strip
 abbrev pub asked : Frame → ℕ → ℕ → ℕ → Strip → Answer
 asked f c r w = verdict (f .reach) (block (f .x) (f .y) (f .q) c r w)
 

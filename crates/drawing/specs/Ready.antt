@@ -1,13 +1,13 @@
 -- What drawing asks for: a frame in which no number leaves its bounds, a block of it, a store with the open trees. Assumes nothing.
 use mathlib.Core.Path.{_≡_}
 use mathlib.Core.List.{List}
-use Prim.Native.Nat.{ℕ, _+_, _-_, _*_, _^_, _≤_, _<_}
+use Prim.Native.Nat.{ℕ, _+_, _*_, _^_, _≤_}
 use lib.Dec.{T}
 use lib.IntN.{ℤ, natAbs}
 use lib.Signed.{nonNeg}
 use lib.ListN.{length, take}
 use Rattle.model.specs.declared.Job.{Job}
-use Rattle.model.specs.Jobs.{judge, plateLog, cellLog}
+use Rattle.model.specs.Jobs.{judge}
 use Rattle.model.specs.Store.{forest}
 use Rattle.model.specs.Plates.{cellsOf}
 use Rattle.ranges.specs.Sizes.{EachSized}
@@ -16,10 +16,11 @@ use Rattle.strip_tests.specs.Limits.{ReachSized}
 use Rattle.open_edges.specs.Starts.{Forest}
 use Rattle.drawing.specs.declared.Frame.{Frame}
 
+-- A corner is at most 16,000,000 fine units from 0, and a row of the plate begins at most 2^24 above it: together below 2^25.
 pub record FrameSized (f : Frame) : Type 0 where
   pub n-size : f .n ≤ 256
-  pub x-size : natAbs (f .x) ≤ 16777216
-  pub y-size : natAbs (f .y) ≤ 16777216
+  pub x-size : natAbs (f .x) ≤ 33554432
+  pub y-size : natAbs (f .y) ≤ 33554432
   pub q-nonneg : T (nonNeg (f .q))
   pub q-size : natAbs (f .q) ≤ 8388608
   pub side-size : f .n * natAbs (f .q) ≤ 8388608
@@ -29,7 +30,7 @@ pub record PowerOfTwo (w : ℕ) : Type 0 where
   pub level : ℕ
   pub is : w ≡ 2 ^ level
 
--- the block of w by w smallest cells at column c and row r, and the open trees
+-- the block of w by w smallest cells at column c and row r of the frame, and the open trees
 pub record Ready (store : List ℤ) (list : List ℕ) (count : ℕ) (f : Frame) (c r w : ℕ) : Type 0 where
   pub list-long : length list ≡ 64
   pub count-most : count ≤ 64
@@ -39,30 +40,9 @@ pub record Ready (store : List ℤ) (list : List ℕ) (count : ℕ) (f : Frame) 
   pub columns-fit : c + w ≤ f .n
   pub rows-fit : r + w ≤ f .n
 
--- the job's numbers that make the frame
-pub record NumbersSized (x y : ℤ) (n m : ℕ) (reach : ℤ) : Type 0 where
-  pub corner-x : natAbs x ≤ 1000000
-  pub corner-y : natAbs y ≤ 1000000
-  pub plate-size : n ≤ 20
-  pub cell-size : m ≤ n
-  pub few : n - m ≤ 8
-  pub reach-size : natAbs reach ≤ 1000000
-  pub reach-above : 0 < natAbs reach
-  pub reach-nonneg : T (nonNeg reach)
-
--- a job whose numbers these are, with its trees at the front of the store and room for its map
-pub record MapReady (j : Job) (cells : List ℕ) (store : List ℤ) (count : ℕ) (x y : ℤ) (n m : ℕ) (reach : ℤ) : Type 0 where
+-- a legal job with its trees at the front of the store and room for its map
+pub record MapReady (j : Job) (cells : List ℕ) (store : List ℤ) : Type 0 where
   pub accepted : judge j ≡ 0
-  pub count-is : count ≡ j .count
-  pub x-is : x ≡ j .x
-  pub y-is : y ≡ j .y
-  pub n-is : n ≡ plateLog j
-  pub m-is : m ≡ cellLog j
-  pub reach-is : reach ≡ j .reach
   pub begins : BeginsAll (forest j) store
   pub sized : EachSized (forest j)
   pub room : cellsOf j ≤ length cells
-
-pub record AnyReady (cells : List ℕ) (store : List ℤ) (count : ℕ) (x y : ℤ) (n m : ℕ) (reach : ℤ) : Type 0 where
-  pub job : Job
-  pub ready : MapReady job cells store count x y n m reach

@@ -1,26 +1,28 @@
 // The map of a job from a store that holds its trees: the plate is quartered, a block that its open trees settle is filled at once, and each
 // quarter of any other asks only the trees that are still open.
+use model::Job;
 ghost use mathlib.Core.Path.{_≡_};
 ghost use mathlib.Core.Bool.{true, false};
 ghost use mathlib.Core.List.{List};
 ghost use Prim.Native.Nat.{ℕ, _+_, _*_, _^_, _≤_, _<_};
 ghost use lib.Dec.{T};
-ghost use lib.IntN.{pos, natAbs, _*ℤ_};
+ghost use lib.IntN.{pos, natAbs, _+ℤ_, _*ℤ_};
 ghost use lib.Signed.{nonNeg};
 ghost use lib.ListN.{length, take};
-ghost use Rattle.model.specs.declared.Job.{Job};
+ghost use Rattle.model.specs.Jobs.{judge, cellLog};
 ghost use Rattle.model.specs.Trees.{Tree};
 ghost use Rattle.model.specs.Explore.{exploreAll, inside};
-ghost use Rattle.model.specs.Plates.{mapOf};
+ghost use Rattle.model.specs.Plates.{columns, mapOf};
 ghost use Rattle.model.specs.Entries.{over as written};
 ghost use Rattle.inheritance.specs.Edges.{EachInherits, opened};
 ghost use Rattle.inheritance.specs.Blocks.{middle as middleOf};
 ghost use Rattle.open_edges.specs.Starts.{Starts};
 ghost use Rattle.filling.specs.Squares.{In, over, Drawn};
 ghost use Rattle.drawing.specs.Letters.{frameOf, asked, ownLetter};
-ghost use Rattle.drawing.specs.Ready.{Ready, NumbersSized, MapReady, AnyReady};
+ghost use Rattle.drawing.specs.Ready.{Ready, MapReady};
 
-// Where the map lies: cells a side, the lower left corner and half a smallest cell's side in fine units, and the reach in fine units.
+// Where rows of a map lie: cells a row, the lower left corner of the first row and half a smallest cell's side in fine units, and the reach in
+// fine units.
 pub struct Frame {
     pub n: usize,
     pub x: i64,
@@ -31,7 +33,7 @@ pub struct Frame {
 
 // the middle of w columns from column c on, of half width q each, from x
 fn middle(x: i64, q: i64, c: usize, w: usize) -> i64
-    requires sizes { ⌜ (natAbs x ≤ 16777216) × T (nonNeg q) × (2 * c + w ≤ 512) × ((2 * c + w) * natAbs q ≤ 16777216) ⌝ }
+    requires sizes { ⌜ (natAbs x ≤ 33554432) × T (nonNeg q) × (2 * c + w ≤ 512) × ((2 * c + w) * natAbs q ≤ 16777216) ⌝ }
     ensures place { λ r. ⌜ r ≡ middleOf x q c w ⌝ }
 {
     x + (2 * c + w) as i64 * q
@@ -121,7 +123,7 @@ fn no_starts() -> [usize; 64]
     [0usize; 64]
 }
 
-// draws the block of w by w cells at column c and row r
+// Draws the block of w by w cells at column c and row r. It needs the bytes up to the block's last row and no more.
 fn draw(
     map: &mut [u8],
     store: &[i32],
@@ -133,7 +135,7 @@ fn draw(
     w: usize,
 )
     requires ready { ⌜ Ready (now store) (now list) count frame c r w ⌝ }
-    requires space { ⌜ frame .n * frame .n ≤ length (now map) ⌝ }
+    requires space { ⌜ (r + w) * frame .n ≤ length (now map) ⌝ }
     ensures letters { λ _. ⌜ ((ts : List Tree) → Starts (now (store .entry)) (take count (now (list .entry))) ts → EachInherits (frame .reach) ts → Drawn (frame .n) (now (map .exit)) (now (map .entry)) (over (ownLetter frame ts) c r w)) ⌝ }
 {
     let mut keep = no_starts();
@@ -152,7 +154,7 @@ fn draw(
     draw(map, store, &keep, kept, frame, c + h, r + h, h);
 }
 
-pub fn power_of_two(k: usize) -> usize
+fn power_of_two(k: usize) -> usize
     requires small { ⌜ k ≤ 20 ⌝ }
     ensures power { λ r. ⌜ r ≡ 2 ^ k ⌝ }
 {
@@ -165,39 +167,74 @@ pub fn power_of_two(k: usize) -> usize
     v
 }
 
-// the frame of a plate of side 2^n with its corner at (x, y) and smallest cells of side 2^m
-fn frame_of(x: i64, y: i64, n: usize, m: usize, reach: i64) -> Frame
-    requires sizes { ⌜ NumbersSized x y n m reach ⌝ }
-    ensures frame { λ f. ⌜ f ≡ frameOf x y n m reach ⌝ }
+// N or M of a legal job
+fn exponent(z: i32) -> usize
+    requires small { ⌜ T (nonNeg z) × (natAbs z ≤ 20) ⌝ }
+    ensures same { λ r. ⌜ r ≡ natAbs z ⌝ }
 {
-    let side = power_of_two(n - m);
-    let unit = 8 * power_of_two(m);
-    Frame {
-        n: side,
-        x: 16 * x,
-        y: 16 * y,
-        q: unit as i64,
-        reach: 16 * reach,
-    }
+    z as usize
 }
 
-// draws the map of the job with these numbers, whose trees the store begins with
-pub fn draw_map(
-    cells: &mut [u8],
-    store: &[i32],
-    count: usize,
-    x: i64,
-    y: i64,
-    n: usize,
-    m: usize,
-    reach: i64,
-)
-    requires ready { ⌜ AnyReady (now cells) (now store) count x y n m reach ⌝ }
-    ensures map { λ _. ⌜ ((j : Job) → MapReady j (now (cells .entry)) (now (store .entry)) count x y n m reach → now (cells .exit) ≡ written (mapOf j) (now (cells .entry))) ⌝ }
+// The cells a side of a legal job's map.
+pub fn columns_of(job: Job) -> usize
+    requires legal { ⌜ judge job ≡ 0 ⌝ }
+    ensures side { λ r. ⌜ r ≡ columns job ⌝ }
+    ensures few { λ r. ⌜ r ≤ 256 ⌝ }
 {
+    let n = exponent(job.n);
+    let m = exponent(job.m);
+    power_of_two(n - m)
+}
+
+// half a smallest cell's side in fine units
+fn unit_of(job: Job) -> i64
+    requires legal { ⌜ judge job ≡ 0 ⌝ }
+    ensures unit { λ r. ⌜ r ≡ pos (8 * 2 ^ cellLog job) ⌝ }
+{
+    let m = exponent(job.m);
+    let unit = 8 * power_of_two(m);
+    unit as i64
+}
+
+// a length of a job in fine units
+fn fine(z: i32) -> i64
+    requires size { ⌜ natAbs z ≤ 1000000 ⌝ }
+    ensures sixteenths { λ r. ⌜ r ≡ pos 16 *ℤ z ⌝ }
+{
+    16 * (z as i64)
+}
+
+// where row `row` begins, above y
+fn row_at(y: i64, q: i64, row: usize) -> i64
+    requires sizes { ⌜ (natAbs y ≤ 16777216) × T (nonNeg q) × (row ≤ 256) × (row * natAbs q ≤ 8388608) ⌝ }
+    ensures place { λ r. ⌜ r ≡ y +ℤ pos (2 * row) *ℤ q ⌝ }
+{
+    y + (2 * row) as i64 * q
+}
+
+// the frame of a legal job's rows from one row on
+fn frame_of(job: Job, row: usize) -> Frame
+    requires legal { ⌜ judge job ≡ 0 ⌝ }
+    requires within { ⌜ row ≤ columns job ⌝ }
+    ensures frame { λ f. ⌜ f ≡ frameOf job row ⌝ }
+{
+    let n = columns_of(job);
+    let q = unit_of(job);
+    let x = fine(job.x);
+    let y = row_at(fine(job.y), q, row);
+    let reach = fine(job.reach);
+    Frame { n, x, y, q, reach }
+}
+
+// draws the map of a legal job, whose trees the store begins with
+pub fn draw_map(cells: &mut [u8], store: &[i32], job: Job)
+    requires ready { ⌜ MapReady job (now cells) (now store) ⌝ }
+    ensures map { λ _. ⌜ now (cells .exit) ≡ written (mapOf job) (now (cells .entry)) ⌝ }
+{
+    let count = job.count;
     let mut list = no_starts();
     open_edges::list_starts(store, count, &mut list);
-    let frame = frame_of(x, y, n, m, reach);
+    let frame = frame_of(job, 0);
     let side = frame.n;
     draw(cells, store, &list, count, frame, 0, 0, side);
 }

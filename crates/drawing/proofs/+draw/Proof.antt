@@ -1,9 +1,10 @@
 -- `drawing::draw` meets its contract: a settled block is filled, and any other is drawn in quarters. Assumes nothing.
 use mathlib.Core.Path.{_∙_}
 use mathlib.Core.List.{List}
-use Prim.Native.Nat.{ℕ, _+_, _/_, _≤_, _<_}
+use Prim.Native.Nat.{ℕ, _+_, _*_, _/_, _≤_, _<_}
+use native.Mathlib.Nat.{le-trans, mul-le-mul-right}
 use native.Mathlib.Omega.{arith}
-use lib.ListN.{take}
+use lib.ListN.{length, take}
 use Rattle.model.specs.Trees.{Tree}
 use Rattle.inheritance.specs.Edges.{opened, opened-inherits}
 use Rattle.open_edges.specs.Starts.{Starts}
@@ -44,7 +45,7 @@ draw-fill-square-requires : (t : ℕ) → draw-lts.Need-fill-square-requires (ca
 draw-fill-square-requires t c κs =
     let s = c .before .before .before .before .before .before in
     let p = s .pre .1 .0 in
-    (p .frame-sized .n-size, omega (arith, p .columns-fit), omega (arith, p .rows-fit), s .pre .1 .1)
+    (omega (arith, p .columns-fit), omega (arith, p .rows-fit, p .frame-sized .n-size), s .pre .1 .1)
 
 draw-same-length : (t : ℕ) → draw-lts.Need-same-length (callees t) (draw-at t) draw.Post
 draw-same-length t c = c .before .before .fill-square .kept .0
@@ -98,11 +99,21 @@ module _ (t : ℕ) (e : draw-lts.Else1 (callees t) (draw-at t) draw.Post) where
   high : start .args .r + half + half ≤ start .args .frame .n
   high = omega (arith, halves .whole, ready .rows-fit)
 
+  -- the rows of a quarter lie within those of the block
+  space : (y : ℕ) → y + half ≤ start .args .r + start .args .w → (y + half) * start .args .frame .n ≤ length (start .args .map .now)
+  space y h = le-trans (mul-le-mul-right (start .args .frame .n) h) (start .pre .1 .1)
+
+  low-in : start .args .r + half ≤ start .args .r + start .args .w
+  low-in = omega (arith, halves .whole)
+
+  high-in : start .args .r + half + half ≤ start .args .r + start .args .w
+  high-in = omega (arith, halves .whole)
+
 draw-draw-requires : (t : ℕ) → draw-lts.Need-draw-requires (callees t) (draw-at t) draw.Post
 draw-draw-requires t c κs =
     let e = c .before .before in
     let s = start t e in
-    (falls-to t e, (quarter t e (s .args .c) (s .args .r) (left t e) (low t e), s .pre .1 .1))
+    (falls-to t e, (quarter t e (s .args .c) (s .args .r) (left t e) (low t e), space t e (s .args .r) (low-in t e)))
 
 draw-add-draw : (t : ℕ) → draw-lts.Need-add-draw (callees t) (draw-at t) draw.Post
 draw-add-draw t c = let e = c .before .before .before .before .before .before .before in omega (arith, left t e, ready t e .frame-sized .n-size)
@@ -111,7 +122,7 @@ draw-draw-requires-2 : (t : ℕ) → draw-lts.Need-draw-requires-2 (callees t) (
 draw-draw-requires-2 t c κs =
     let e = c .before .before .before .before .before .before .before in
     let s = start t e in
-    (falls-to t e, (quarter t e (s .args .c + half t e) (s .args .r) (right t e) (low t e), omega (arith, s .pre .1 .1, c .before .before .before .before .draw .kept .0)))
+    (falls-to t e, (quarter t e (s .args .c + half t e) (s .args .r) (right t e) (low t e), omega (arith, space t e (s .args .r) (low-in t e), c .before .before .before .before .draw .kept .0)))
 
 draw-add-draw-2 : (t : ℕ) → draw-lts.Need-add-draw-2 (callees t) (draw-at t) draw.Post
 draw-add-draw-2 t c = let e = c .before .before .before .before .before .before .before .before .before .before .before .before in omega (arith, low t e, ready t e .frame-sized .n-size)
@@ -120,7 +131,7 @@ draw-draw-requires-3 : (t : ℕ) → draw-lts.Need-draw-requires-3 (callees t) (
 draw-draw-requires-3 t c κs =
     let e = c .before .before .before .before .before .before .before .before .before .before .before .before in
     let s = start t e in
-    (falls-to t e, (quarter t e (s .args .c) (s .args .r + half t e) (left t e) (high t e), omega (arith, s .pre .1 .1, c .before .before .before .before .draw2 .kept .0, c .before .before .before .before .before .before .before .before .before .draw .kept .0)))
+    (falls-to t e, (quarter t e (s .args .c) (s .args .r + half t e) (left t e) (high t e), omega (arith, space t e (s .args .r + half t e) (high-in t e), c .before .before .before .before .draw2 .kept .0, c .before .before .before .before .before .before .before .before .before .draw .kept .0)))
 
 draw-add-draw-3 : (t : ℕ) → draw-lts.Need-add-draw-3 (callees t) (draw-at t) draw.Post
 draw-add-draw-3 t c = let e = c .before .before .before .before .before .before .before .before .before .before .before .before .before .before .before .before .before in omega (arith, left t e, ready t e .frame-sized .n-size)
@@ -132,7 +143,7 @@ draw-draw-requires-4 : (t : ℕ) → draw-lts.Need-draw-requires-4 (callees t) (
 draw-draw-requires-4 t c κs =
     let e = c .before .before .before .before .before .before .before .before .before .before .before .before .before .before .before .before .before in
     let s = start t e in
-    (falls-to t e, (quarter t e (s .args .c + half t e) (s .args .r + half t e) (right t e) (high t e), omega (arith, s .pre .1 .1, c .before .before .before .before .draw3 .kept .0, c .before .before .before .before .before .before .before .before .before .draw2 .kept .0, c .before .before .before .before .before .before .before .before .before .before .before .before .before .before .draw .kept .0)))
+    (falls-to t e, (quarter t e (s .args .c + half t e) (s .args .r + half t e) (right t e) (high t e), omega (arith, space t e (s .args .r + half t e) (high-in t e), c .before .before .before .before .draw3 .kept .0, c .before .before .before .before .before .before .before .before .before .draw2 .kept .0, c .before .before .before .before .before .before .before .before .before .before .before .before .before .before .draw .kept .0)))
 
 draw-same-length-2 : (t : ℕ) → draw-lts.Need-same-length-2 (callees t) (draw-at t) draw.Post
 draw-same-length-2 t c =

@@ -1,77 +1,101 @@
 -- `drawing::frame_of` meets its contract. Assumes nothing.
-use mathlib.Core.Path.{_≡_, ap, _∙_}
+use mathlib.Core.Path.{_≡_, ap₂, _∙_}
 use Prim.Native.Nat.{ℕ, _*_, _^_, _≤_, _<_}
 use native.Mathlib.Omega.{arith}
 use borrow.Author.Needs.{needs}
-use lib.Pow.{pow-mono}
-use lib.IntN.{ℤ, pos, _*ℤ_}
+use lib.IntN.{ℤ, pos, natAbs, _+ℤ_, _*ℤ_}
+use lib.Signed.{mag}
 use mir.Syntax.{w64}
 use mir.Val.{toZ, ofZ}
-use mir.Facts.{toZ-pos}
-use Rattle.integers.specs.Signed.{Made, arg, lit, times, back, fits64}
+use Rattle.integers.specs.Signed.{natAbs-mul, read32, read64}
+use Rattle.model.specs.Jobs.{cellLog}
 use Rattle.drawing.specs.declared.Frame.{Frame}
+use Rattle.drawing.proofs.Maps.{job-numbers, columns-few, row-size, fine-back}
 use Rattle.drawing.proofs.frame_of.Statement.{statement}
 use Rattle.drawing.proofs.frame_of.Tie as tie
 
-module _ (c : tie.Start) where
-  x : Made (pos 16 *ℤ toZ w64 (ofZ w64 (c .args .x))) (pos 16 *ℤ c .args .x) 16000000
-  x = times (lit 16 tt) (arg (c .pre .corner-x) (c .fits .x)) tt
+columns-of-requires : tie.Need-columns-of-requires
+columns-of-requires c κs = search needs
 
-  y : Made (pos 16 *ℤ toZ w64 (ofZ w64 (c .args .y))) (pos 16 *ℤ c .args .y) 16000000
-  y = times (lit 16 tt) (arg (c .pre .corner-y) (c .fits .y)) tt
+unit-of-requires : tie.Need-unit-of-requires
+unit-of-requires c κs = search needs
 
-  reach : Made (pos 16 *ℤ toZ w64 (ofZ w64 (c .args .reach))) (pos 16 *ℤ c .args .reach) 16000000
-  reach = times (lit 16 tt) (arg (c .pre .reach-size) (c .fits .reach)) tt
+fine-requires : tie.Need-fine-requires
+fine-requires c κs =
+    let s = c .before .before .before in
+    let g : mag (s .args .job .x) < 2 ^ 31 = search needs in
+    rw (read32 (s .args .job .x) g) (job-numbers (s .args .job) (s .pre .0) .corner-x)
 
-small : (c : tie.After-power-of-two2) → 8 * c .power-of-two2 .result ≤ 8388608
-small c =
-    let s = c .before .before in
-    let k : s .args .m ≤ 20 = omega (arith, s .pre .cell-size, s .pre .plate-size) in
-    omega (arith, pow-mono k, c .power-of-two2 .ensures)
+fine-requires-2 : tie.Need-fine-requires-2
+fine-requires-2 c κs =
+    let s = c .before .before .before .before .before in
+    let g : mag (s .args .job .y) < 2 ^ 31 = search needs in
+    rw (read32 (s .args .job .y) g) (job-numbers (s .args .job) (s .pre .0) .corner-y)
 
-sub-power-of-two : tie.Need-sub-power-of-two
-sub-power-of-two c = search needs
+-- the corner and the unit
+module _ (c : tie.After-fine2) where
+  abbrev start : tie.Start
+  start = c .before .before .before .before .before .before
 
-power-of-two-requires : tie.Need-power-of-two-requires
-power-of-two-requires c κs = search needs
+  y-is : toZ w64 (ofZ w64 (c .fine2 .result)) ≡ pos 16 *ℤ start .args .job .y
+  y-is =
+      let f : mag (c .fine2 .result) < 2 ^ 63 = search needs in
+      let g : mag (start .args .job .y) < 2 ^ 31 = search needs in
+      fine-back (c .fine2 .result) (start .args .job .y) (c .fine2 .ensures) f g
 
-power-of-two-requires-2 : tie.Need-power-of-two-requires-2
-power-of-two-requires-2 c κs = search needs
+  q-is : toZ w64 (ofZ w64 (c .before .before .before .before .unit-of .result)) ≡ pos (8 * 2 ^ cellLog (start .args .job))
+  q-is =
+      let u = c .before .before .before .before .unit-of in
+      let f : mag (u .result) < 2 ^ 63 = search needs in
+      read64 (u .result) f ∙ u .ensures
 
-mul-unit : tie.Need-mul-unit
-mul-unit c = omega (arith, small c)
+row-at-requires : tie.Need-row-at-requires
+row-at-requires c κs =
+    let s = start c in
+    let j = s .args .job in
+    let k = job-numbers j (s .pre .0) in
+    rw (y-is c, q-is c) (
+      omega (arith, natAbs-mul (pos 16) (j .y), k .corner-y),
+      tt,
+      omega (arith, s .pre .1, columns-few j (s .pre .0)),
+      row-size j (s .pre .0) (s .args .row) (s .pre .1),
+    )
 
-mul-t9 : tie.Need-mul-t9
-mul-t9 c = x (c .before .before) .fits
-
-mul-t10 : tie.Need-mul-t10
-mul-t10 c = y (c .before .before) .fits
-
-cast-t11 : tie.Need-cast-t11
-cast-t11 c = fits64 (small c) tt
-
-mul-t12 : tie.Need-mul-t12
-mul-t12 c = reach (c .before .before) .fits
+fine-requires-3 : tie.Need-fine-requires-3
+fine-requires-3 c κs =
+    let s = c .before .before .before .before .before .before .before .before in
+    let g : mag (s .args .job .reach) < 2 ^ 31 = search needs in
+    rw (read32 (s .args .job .reach) g) (job-numbers (s .args .job) (s .pre .0) .reach .most)
 
 same : {a b : ℕ} {x y q r x′ y′ q′ r′ : ℤ} → a ≡ b → x ≡ x′ → y ≡ y′ → q ≡ q′ → r ≡ r′ → _≡_ {A = Frame} (record { n = a; x = x; y = y; q = q; reach = r }) (record { n = b; x = x′; y = y′; q = q′; reach = r′ })
 same e f g h k = cc
 
 returns : tie.Need-returns
 returns c =
-    let s = c .before .before in
-    let b : 8 * c .power-of-two2 .result < 2 ^ 63 = omega (arith, small c) in
-    same (c .before .power-of-two .ensures) (back (x s)) (back (y s)) (toZ-pos w64 b ∙ ap (λ n. pos (8 * n)) (c .power-of-two2 .ensures)) (back (reach s))
+    let a = c .before .before .before in
+    let s = start a in
+    let x = a .before .before .fine in
+    let r = c .before .before .row-at in
+    let fx : mag (x .result) < 2 ^ 63 = search needs in
+    let gx : mag (s .args .job .x) < 2 ^ 31 = search needs in
+    let fy : mag (r .result) < 2 ^ 63 = search needs in
+    let fr : mag (c .fine3 .result) < 2 ^ 63 = search needs in
+    let gr : mag (s .args .job .reach) < 2 ^ 31 = search needs in
+    same
+    (a .before .before .before .before .before .columns-of .ensures .0)
+    (fine-back (x .result) (s .args .job .x) (x .ensures) fx gx)
+    (read64 (r .result) fy ∙ r .ensures ∙ ap₂ (λ y q. y +ℤ pos (2 * s .args .row) *ℤ q) (y-is a) (q-is a))
+    (q-is a)
+    (fine-back (c .fine3 .result) (s .args .job .reach) (c .fine3 .ensures) fr gr)
 
 pub frame-of-spec : {M : Type 1} → statement M
 frame-of-spec =
     tie.close
     (tie.spec
-    sub-power-of-two
-    power-of-two-requires
-    power-of-two-requires-2
-    mul-unit
-    mul-t9
-    mul-t10
-    cast-t11
-    mul-t12
+    columns-of-requires
+    unit-of-requires
+    fine-requires
+    fine-requires-2
+    row-at-requires
+    fine-requires-3
     returns)

@@ -13,7 +13,7 @@ use Rattle.drawing.proofs.middle.Tie as tie
 product : (c : tie.Start) → Made (toZ w64 (2 * c .args .c + c .args .w) *ℤ toZ w64 (ofZ w64 (c .args .q))) (pos (2 * c .args .c + c .args .w) *ℤ c .args .q) 16777216
 product c = scaled (2 * c .args .c + c .args .w) (c .args .q) 16777216 (omega (arith, c .pre .2)) (c .fits .q) (c .pre .3) tt
 
-x : (c : tie.Start) → Made (c .args .x) (c .args .x) 16777216
+x : (c : tie.Start) → Made (c .args .x) (c .args .x) 33554432
 x c = arg (c .pre .0) (c .fits .x)
 
 mul-result : tie.Need-mul-result
