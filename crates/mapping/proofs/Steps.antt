@@ -24,40 +24,10 @@ use Rattle.subtrees.specs.Preorder.{length-all, all-begun}
 use Rattle.subtrees.specs.Sizes.{forest-is, few-trees}
 use Rattle.forests.specs.Walk.{Whole}
 use Rattle.drawing.specs.Ready.{MapReady}
-use Rattle.drawing.proofs.Maps.{job-numbers}
 use Rattle.mapping.specs.Checks.{Passed, Refuses, map-refused, map-long, map-store, map-space, map-passed, none-long, some-short}
-use Rattle.mapping.specs.Placed.{Places}
-use Rattle.mapping.specs.declared.Placing.{Placing}
 use Rattle.mapping.specs.declared.Checked.{Checked}
 
--- ---- N and M
-level-above : (z : ℤ) → between (pos 0) (pos 20) z ≡ true → T (nonNeg z)
-unfolding between
-level-above (pos n) e = tt
-level-above (negsuc n) e = subst T (sym e) tt
-
-pub n-above : (j : Job) → judge j ≡ 0 → mag (j .n) < 2 ^ 31 → T (nonNeg (toZ w32 (ofZ w32 (j .n))))
-n-above j e f = rw (read32 (j .n) f) (level-above (j .n) (legal j e .in-range .n-in))
-
-pub m-above : (j : Job) → judge j ≡ 0 → mag (j .m) < 2 ^ 31 → T (nonNeg (toZ w32 (ofZ w32 (j .m))))
-m-above j e f = rw (read32 (j .m) f) (level-above (j .m) (legal j e .in-range .m-in))
-
 -- ---- cells
-module _ (j : Job) (ok : judge j ≡ 0) (p : Placing) (h : Places p j) where
-  pub m-below : p .m ≤ p .n
-  m-below = omega (arith, h .n-is, h .m-is, job-numbers j ok .cell-size)
-
-  pub few-levels : p .n - p .m ≤ 20
-  few-levels = omega (arith, h .n-is, h .m-is, job-numbers j ok .few)
-
-  pub side-few : (v : ℕ) → v ≡ 2 ^ (p .n - p .m) → v ≤ 256
-  side-few v e =
-      let k : p .n - p .m ≤ 8 = omega (arith, h .n-is, h .m-is, job-numbers j ok .few) in
-      rw e (pow-le-pow-right {n = 2} (lit< tt) {i = p .n - p .m} {j = 8} k)
-
-  pub side-is : (v : ℕ) → v ≡ 2 ^ (p .n - p .m) → v ≡ columns j
-  side-is v e = e ∙ ap₂ (λ a b. 2 ^ (a - b)) (h .n-is) (h .m-is)
-
 pub cells-fit-word : (v : ℕ) → v ≤ 256 → Fits w64 (v * v)
 cells-fit-word v l = record { fits = omega (arith, mul-le-mul l l) }
 
@@ -140,24 +110,11 @@ module _ (j : Job) (numbers room nodes : ℕ) (h : Passed j numbers room nodes) 
         e ∙ rw (read32 (j .grain) g)
         (ap (λ ts. flattenAll ts ++ drop (width * sizes ts) old) (sym (forest-is j)) ∙ ap (λ n. storeOf j ++ drop n old) (sym (length-all (forest j))))
 
--- the trees that were built and the numbers that were placed are what the drawing asks for
-pub map-now : (j : Job) (nodes : ℕ) (old new : List ℤ) (cells : List ℕ) → Passed j (length old) (length cells) nodes → mag (j .grain) < 2 ^ 31 → new ≡ flattenAll (trees (toZ w32 (ofZ w32 (j .grain))) (edgesFrom (j .places) (j .count) 0)) ++ drop (width * sizes (trees (toZ w32 (ofZ w32 (j .grain))) (edgesFrom (j .places) (j .count) 0))) old → (p : Placing) → Places p j → MapReady j cells new (j .count) (p .x) (p .y) (p .n) (p .m) (p .reach)
-map-now j nodes old new cells h g e p q = record {
+-- the trees that were built are what the drawing asks for
+pub map-now : (j : Job) (nodes : ℕ) (old new : List ℤ) (cells : List ℕ) → Passed j (length old) (length cells) nodes → mag (j .grain) < 2 ^ 31 → new ≡ flattenAll (trees (toZ w32 (ofZ w32 (j .grain))) (edgesFrom (j .places) (j .count) 0)) ++ drop (width * sizes (trees (toZ w32 (ofZ w32 (j .grain))) (edgesFrom (j .places) (j .count) 0))) old → MapReady j cells new
+map-now j nodes old new cells h g e = record {
   accepted = h .judged;
-  count-is = refl;
-  x-is = q .x-is;
-  y-is = q .y-is;
-  n-is = q .n-is;
-  m-is = q .m-is;
-  reach-is = q .reach-is;
   begins = all-begun new (drop (length (storeOf j)) old) (forest j) (store-now j (length old) (length cells) nodes h g old new e);
   sized = forest-sized j (judge-sized j (h .judged));
   room = h .cells-fit;
 }
-
--- ---- values read back from their bits
-pub wide-back : (w z : ℤ) → w ≡ toZ w32 (ofZ w32 z) → mag w < 2 ^ 63 → mag z < 2 ^ 31 → toZ w64 (ofZ w64 w) ≡ z
-wide-back w z e f g = read64 w f ∙ e ∙ read32 z g
-
-pub log-back : (k : ℕ) (z : ℤ) → k ≡ natAbs (toZ w32 (ofZ w32 z)) → mag z < 2 ^ 31 → k ≡ natAbs z
-log-back k z e g = e ∙ ap natAbs (read32 z g)

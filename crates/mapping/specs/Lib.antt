@@ -1,3 +1,2 @@
--- The map entry's checks, one after the other, and the numbers that place a map.
+-- The map entry's checks, one after the other.
 pub mod Checks
-pub mod Placed

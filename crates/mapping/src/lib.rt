@@ -4,9 +4,6 @@ use model::Job;
 use model::Map;
 ghost use mathlib.Core.Path.{_≡_};
 ghost use Prim.Native.Nat.{_≤_};
-ghost use lib.Dec.{T};
-ghost use lib.IntN.{natAbs};
-ghost use lib.Signed.{nonNeg};
 ghost use lib.ListN.{length};
 ghost use Rattle.model.specs.Refusals.{accepted};
 ghost use Rattle.model.specs.Jobs as jobs;
@@ -14,51 +11,6 @@ ghost use Rattle.model.specs.Store.{storeOf};
 ghost use Rattle.model.specs.Plates.{columns, mapOf};
 ghost use Rattle.model.specs.Entries as entries;
 ghost use Rattle.mapping.specs.Checks.{Passed, Refuses};
-ghost use Rattle.mapping.specs.Placed.{Places};
-
-fn log_of(z: i32) -> usize
-    requires sign { ⌜ T (nonNeg z) ⌝ }
-    ensures magnitude { λ r. ⌜ r ≡ natAbs z ⌝ }
-{
-    z as usize
-}
-
-fn wide(z: i32) -> i64
-    ensures same { λ r. ⌜ r ≡ z ⌝ }
-{
-    z as i64
-}
-
-// The numbers of a legal job that place its map, as the drawing takes them.
-pub struct Placing {
-    pub x: i64,
-    pub y: i64,
-    pub n: usize,
-    pub m: usize,
-    pub reach: i64,
-}
-
-fn placing_of(job: Job) -> Placing
-    requires legal { ⌜ jobs.judge job ≡ 0 ⌝ }
-    ensures placing { λ r. ⌜ Places r job ⌝ }
-{
-    let x = wide(job.x);
-    let y = wide(job.y);
-    let n = log_of(job.n);
-    let m = log_of(job.m);
-    let reach = wide(job.reach);
-    Placing { x, y, n, m, reach }
-}
-
-// The cells a side of a legal job's map.
-fn side_of(job: Job) -> usize
-    requires legal { ⌜ jobs.judge job ≡ 0 ⌝ }
-    ensures side { λ r. ⌜ r ≡ columns job ⌝ }
-    ensures few { λ r. ⌜ r ≤ 256 ⌝ }
-{
-    let at = placing_of(job);
-    drawing::power_of_two(at.n - at.m)
-}
 
 // The cells a side of a job's map, or 0 where the job is refused by itself.
 pub fn cells_a_side(job: Job) -> usize
@@ -68,7 +20,7 @@ pub fn cells_a_side(job: Job) -> usize
     if judging::judge(job) != 0 {
         return 0;
     }
-    side_of(job)
+    drawing::columns_of(job)
 }
 
 // The refusal's number, and where it is 0, the nodes of the job's trees.
@@ -100,7 +52,7 @@ fn go_through(job: Job, numbers: usize, room: usize) -> Checked
     if numbers < WIDTH * nodes {
         return refused(6);
     }
-    let side = side_of(job);
+    let side = drawing::columns_of(job);
     if room < side * side {
         return refused(7);
     }
@@ -115,8 +67,7 @@ fn draw(job: Job, store: &mut [i32], cells: &mut [u8], nodes: usize)
 {
     let places = job.places;
     forests::build_all(store, &places, job.count, job.grain);
-    let at = placing_of(job);
-    drawing::draw_map(cells, store, job.count, at.x, at.y, at.n, at.m, at.reach);
+    drawing::draw_map(cells, store, job);
 }
 
 // Draws a job's map.

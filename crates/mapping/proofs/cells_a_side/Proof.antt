@@ -16,14 +16,14 @@ returns c =
     let j = c .before .before .args .job in
     (sym (refused-is (judge j) (columns j) 0 (λ z. c .if1 .taken (k .ensures ∙ z))), omega arith)
 
-side-of-requires : tie.Need-side-of-requires
-side-of-requires c κs = sym (c .before .judge .ensures) ∙ c .if1 .left
+columns-of-requires : tie.Need-columns-of-requires
+columns-of-requires c κs = sym (c .before .judge .ensures) ∙ c .if1 .left
 
 returns-2 : tie.Need-returns-2
 returns-2 c =
     let e = c .before in
     let j = e .before .before .args .job in
-    (c .side-of .ensures .0 ∙ sym (accepted-is (judge j) (columns j) 0 (sym (e .before .judge .ensures) ∙ e .if1 .left)), c .side-of .ensures .1)
+    (c .columns-of .ensures .0 ∙ sym (accepted-is (judge j) (columns j) 0 (sym (e .before .judge .ensures) ∙ e .if1 .left)), c .columns-of .ensures .1)
 
 pub cells-a-side-spec : {M : Type 1} → statement M
-cells-a-side-spec = tie.close (tie.spec judge-requires returns side-of-requires returns-2)
+cells-a-side-spec = tie.close (tie.spec judge-requires returns columns-of-requires returns-2)

@@ -50,11 +50,11 @@ returns-3 c =
     let g : mag (s .args .job .grain) < 2 ^ 31 = search needs in
     steps.refused-store (s .args .job) (s .args .numbers) (s .args .room) (c .refused3 .result) (k .result) (k .ensures) (c .before .before .before .before .before .before .before .if1 .left) g (c .before .before .before .count-nodes .result) (c .before .before .before .count-nodes .ensures) (c .before .before .if2 .left) (c .before .if3 .taken) (c .refused3 .ensures)
 
-side-of-requires : tie.Need-side-of-requires
-side-of-requires c κs = search needs
+columns-of-requires : tie.Need-columns-of-requires
+columns-of-requires c κs = search needs
 
 mul-if4 : tie.Need-mul-if4
-mul-if4 c = steps.cells-fit-word (c .side-of .result) (c .side-of .ensures .1)
+mul-if4 c = steps.cells-fit-word (c .columns-of .result) (c .columns-of .ensures .1)
 
 refused-requires-4 : tie.Need-refused-requires-4
 refused-requires-4 c κs = search needs
@@ -64,14 +64,14 @@ returns-4 c =
     let s = c .before .before .before .before .before .before .before .before .before .before .before in
     let k = c .before .before .before .before .before .before .before .before .before .before .judge in
     let g : mag (s .args .job .grain) < 2 ^ 31 = search needs in
-    steps.refused-space (s .args .job) (s .args .numbers) (s .args .room) (c .refused4 .result) (k .result) (k .ensures) (c .before .before .before .before .before .before .before .before .before .if1 .left) g (c .before .before .before .before .before .count-nodes .result) (c .before .before .before .before .before .count-nodes .ensures) (c .before .before .before .before .if2 .left) (c .before .before .before .if3 .left) (c .before .before .side-of .result) (c .before .before .side-of .ensures .0) (c .before .if4 .taken) (c .refused4 .ensures)
+    steps.refused-space (s .args .job) (s .args .numbers) (s .args .room) (c .refused4 .result) (k .result) (k .ensures) (c .before .before .before .before .before .before .before .before .before .if1 .left) g (c .before .before .before .before .before .count-nodes .result) (c .before .before .before .before .before .count-nodes .ensures) (c .before .before .before .before .if2 .left) (c .before .before .before .if3 .left) (c .before .before .columns-of .result) (c .before .before .columns-of .ensures .0) (c .before .if4 .taken) (c .refused4 .ensures)
 
 returns-5 : tie.Need-returns-5
 returns-5 c =
     let s = c .before .before .before .before .before .before .before .before .before .before in
     let k = c .before .before .before .before .before .before .before .before .before .judge in
     let g : mag (s .args .job .grain) < 2 ^ 31 = search needs in
-    steps.all-passed (s .args .job) (s .args .numbers) (s .args .room) (k .result) (c .before .before .before .before .count-nodes .result) (c .before .side-of .result) (k .ensures) (c .before .before .before .before .before .before .before .before .if1 .left) g (c .before .before .before .before .count-nodes .ensures) (c .before .before .before .if2 .left) (c .before .before .if3 .left) (c .before .side-of .ensures .0) (c .if4 .left)
+    steps.all-passed (s .args .job) (s .args .numbers) (s .args .room) (k .result) (c .before .before .before .before .count-nodes .result) (c .before .columns-of .result) (k .ensures) (c .before .before .before .before .before .before .before .before .if1 .left) g (c .before .before .before .before .count-nodes .ensures) (c .before .before .before .if2 .left) (c .before .before .if3 .left) (c .before .columns-of .ensures .0) (c .if4 .left)
 
 pub go-through-spec : {M : Type 1} → statement M
 go-through-spec =
@@ -86,7 +86,7 @@ go-through-spec =
     mul-if3
     refused-requires-3
     returns-3
-    side-of-requires
+    columns-of-requires
     mul-if4
     refused-requires-4
     returns-4
