@@ -12,8 +12,9 @@ use Rattle.integers.specs.Order.{_≼_, num, pos-≼}
 use Rattle.integers.specs.Omega.{zarith}
 use Rattle.integers.specs.Inequalities.{from, _&_}
 use Rattle.integers.specs.Absolute.{absℤ, abs-≼}
+use Rattle.model.specs.Strips.{Strip}
 use Rattle.model.specs.Trees.{Tree}
-use Rattle.model.specs.Explore.{Cell, verdict, exploreAll}
+use Rattle.model.specs.Explore.{Cell, Answer, exploreAll}
 use Rattle.model.specs.Plates.{Verdict, doubtful, square, halfCorner, halfIndex, settled, drawn}
 use Rattle.verdicts.specs.Quartering.{shift, half-fits}
 use Rattle.inheritance.specs.Parts.{PartOf}
@@ -63,17 +64,17 @@ first-column X i w e = ap (λ n. X +ℤ pos n) (nothing i w e) ∙ +ℤ-idr X
     nothing : (i w : ℕ) → i ≡ 0 → i * w ≡ 0
     nothing i w e = rw e (omega arith)
 
-module _ (r : ℤ) (ts : List Tree) (each : EachInherits r ts) (M : ℕ) where
+module _ (v : Cell → Strip → Answer) (ts : List Tree) (each : EachInherits v ts) (M : ℕ) where
   -- the smallest cell's own verdict
   abbrev own : Cell → Verdict
-  own c = settled (exploreAll (verdict r c) ts) doubtful
+  own c = settled (exploreAll (v c) ts) doubtful
 
-  pub drawn-is : (n : ℕ) (X Y : ℤ) (i j : ℕ) → i < 2 ^ n → j < 2 ^ n → drawn r ts M n X Y i j ≡ settled (exploreAll (verdict r (smallest M X Y i j)) ts) doubtful
+  pub drawn-is : (n : ℕ) (X Y : ℤ) (i j : ℕ) → i < 2 ^ n → j < 2 ^ n → drawn v ts M n X Y i j ≡ settled (exploreAll (v (smallest M X Y i j)) ts) doubtful
   unfolding drawn
   drawn-is zero X Y i j hi hj =
       ap own (ap (λ k. square X Y k) (mul-one (2 ^ M)) ∙ sym (ap₂ (λ x y. square x y (2 ^ M)) (first-column X i (2 ^ M) (omega arith)) (first-column Y j (2 ^ M) (omega arith))))
   drawn-is (suc n) X Y i j hi hj =
       let q = drawn-is n (halfCorner (ltb i (2 ^ n)) X (2 ^ M * 2 ^ n)) (halfCorner (ltb j (2 ^ n)) Y (2 ^ M * 2 ^ n)) (halfIndex (ltb i (2 ^ n)) i (2 ^ n)) (halfIndex (ltb j (2 ^ n)) j (2 ^ n))
       (half-fits (ltb i (2 ^ n)) i (2 ^ n) (λ t. ltb→lt i (2 ^ n) t) (rw (pow-succ' 2 n) at hi)) (half-fits (ltb j (2 ^ n)) j (2 ^ n) (λ t. ltb→lt j (2 ^ n) t) (rw (pow-succ' 2 n) at hj)) in
-      part-settled r (square X Y (2 ^ M * 2 ^ suc n)) (smallest M X Y i j) (smallest-part M (suc n) X Y i j hi hj) ts each (exploreAll (verdict r (square X Y (2 ^ M * 2 ^ suc n))) ts) refl _
+      part-settled v (square X Y (2 ^ M * 2 ^ suc n)) (smallest M X Y i j) (smallest-part M (suc n) X Y i j hi hj) ts each (exploreAll (v (square X Y (2 ^ M * 2 ^ suc n))) ts) refl _
       (q ∙ ap own (ap₂ (λ x y. square x y (2 ^ M)) (same-column (ltb i (2 ^ n)) X i (2 ^ M) (2 ^ n) (λ t. nltb→le i (2 ^ n) t)) (same-column (ltb j (2 ^ n)) Y j (2 ^ M) (2 ^ n) (λ t. nltb→le j (2 ^ n) t))))

@@ -65,14 +65,14 @@ isAway₂ r c S =
 pub data Answer : Type 0 where
   inside away maybe : Answer
 
--- what a strip says by itself
-abbrev pub judge : Bool → Bool → Answer
-judge true a = inside
-judge false true = away
-judge false false = maybe
+-- what a strip says by itself, for a cell: inside where that test passes, away where either of those does
+abbrev pub byTests : Bool → Bool → Answer
+byTests true a = inside
+byTests false true = away
+byTests false false = maybe
 
-abbrev pub verdict : ℤ → Cell → Strip → Answer
-verdict r c S = judge (isInside r c S) (isAway₁ r c S || isAway₂ r c S)
+abbrev pub judged : ℤ → Cell → Strip → Answer
+judged r c S = byTests (isInside r c S) (isAway₁ r c S || isAway₂ r c S)
 
 -- two answers joined: inside if one is, away if both are
 abbrev pub join : Answer → Answer → Answer

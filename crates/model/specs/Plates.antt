@@ -7,9 +7,10 @@ use lib.IntN.{ℤ, pos, _+ℤ_, _*ℤ_}
 use Rattle.sequences.specs.RowMajor.{rowMajor}
 use Rattle.model.specs.declared.Job.{Job}
 use Rattle.model.specs.Jobs.{plateLog, cellLog}
+use Rattle.model.specs.Strips.{Strip}
 use Rattle.model.specs.Trees.{Tree}
 use Rattle.model.specs.Store.{forest}
-use Rattle.model.specs.Explore.{Cell, Answer, inside, away, maybe, verdict, exploreAll}
+use Rattle.model.specs.Explore.{Cell, Answer, inside, away, maybe, judged, exploreAll}
 
 -- a map gives the first three, the exact verdict is the first, the second or the last: doubtful and mixed are two things
 pub data Verdict : Type 0 where
@@ -42,15 +43,16 @@ settled inside v = within
 settled away v = clear
 settled maybe v = v
 
--- the verdict on the smallest cell in column i and row j of a square of 2^n columns of side 2^M, with its corner at (X, Y)
-unfoldable pub drawn : ℤ → List Tree → ℕ → ℕ → ℤ → ℤ → ℕ → ℕ → Verdict
-drawn r ts M zero X Y i j = settled (exploreAll (verdict r (square X Y (2 ^ M * 2 ^ 0))) ts) doubtful
-drawn r ts M (suc n) X Y i j =
+-- the verdict on the smallest cell in column i and row j of a square of 2^n columns of side 2^M, with its corner at (X, Y), for any way v to
+-- judge a strip for a cell
+unfoldable pub drawn : (Cell → Strip → Answer) → List Tree → ℕ → ℕ → ℤ → ℤ → ℕ → ℕ → Verdict
+drawn v ts M zero X Y i j = settled (exploreAll (v (square X Y (2 ^ M * 2 ^ 0))) ts) doubtful
+drawn v ts M (suc n) X Y i j =
     let h : ℕ = 2 ^ n in
     let left : Bool = ltb i h in
     let lower : Bool = ltb j h in
-    let quarter : Verdict = drawn r ts M n (halfCorner left X (2 ^ M * h)) (halfCorner lower Y (2 ^ M * h)) (halfIndex left i h) (halfIndex lower j h) in
-    settled (exploreAll (verdict r (square X Y (2 ^ M * 2 ^ suc n))) ts) quarter
+    let quarter : Verdict = drawn v ts M n (halfCorner left X (2 ^ M * h)) (halfCorner lower Y (2 ^ M * h)) (halfIndex left i h) (halfIndex lower j h) in
+    settled (exploreAll (v (square X Y (2 ^ M * 2 ^ suc n))) ts) quarter
 
 -- ---- the map of a job
 -- cells a side
@@ -59,7 +61,7 @@ columns j = 2 ^ (plateLog j - cellLog j)
 
 -- the verdict in column i and row k, and the bytes of all, row by row from the lowest
 unfoldable pub mapped : Job → ℕ → ℕ → Verdict
-mapped j i k = drawn (pos 16 *ℤ j .reach) (forest j) (cellLog j) (plateLog j - cellLog j) (j .x) (j .y) i k
+mapped j i k = drawn (judged (pos 16 *ℤ j .reach)) (forest j) (cellLog j) (plateLog j - cellLog j) (j .x) (j .y) i k
 
 abbrev pub cellsOf : Job → ℕ
 cellsOf j = columns j * columns j

@@ -4,7 +4,7 @@ use mathlib.Core.Bool.{Bool, true, false}
 use mathlib.Core.Logic.{_⊎_, inl, inr}
 use Prim.Native.Nat.{ℕ}
 use native.Mathlib.Omega.{arith}
-use Rattle.model.specs.Explore.{Answer, inside, away, maybe, judge, join, settle}
+use Rattle.model.specs.Explore.{Answer, inside, away, maybe, byTests, join, settle}
 use Rattle.model.specs.Plates.{clear, within, doubtful, mixed, settled}
 
 -- two constructors are never equal: `clash (cc)`
@@ -12,20 +12,20 @@ pub clash : {X : Type 0} → _≡_ {A = ℕ} 0 1 → X
 clash e = absurd (omega arith)
 
 -- ---- a strip's answer, by its tests
-pub judge-inside : (a b : Bool) → judge a b ≡ inside → a ≡ true
-judge-inside true b e = refl
-judge-inside false true e = clash (cc)
-judge-inside false false e = clash (cc)
+pub tests-inside : (a b : Bool) → byTests a b ≡ inside → a ≡ true
+tests-inside true b e = refl
+tests-inside false true e = clash (cc)
+tests-inside false false e = clash (cc)
 
-pub judge-away : (a b : Bool) → judge a b ≡ away → b ≡ true
-judge-away true b e = clash (cc)
-judge-away false true e = refl
-judge-away false false e = clash (cc)
+pub tests-away : (a b : Bool) → byTests a b ≡ away → b ≡ true
+tests-away true b e = clash (cc)
+tests-away false true e = refl
+tests-away false false e = clash (cc)
 
-pub judge-maybe : (a b : Bool) → judge a b ≡ maybe → (a ≡ false) × (b ≡ false)
-judge-maybe true b e = clash (cc)
-judge-maybe false true e = clash (cc)
-judge-maybe false false e = (refl, refl)
+pub tests-maybe : (a b : Bool) → byTests a b ≡ maybe → (a ≡ false) × (b ≡ false)
+tests-maybe true b e = clash (cc)
+tests-maybe false true e = clash (cc)
+tests-maybe false false e = (refl, refl)
 
 -- ---- a node's answer: its own, or its halves'
 pub settle-inside : (a b : Answer) → settle a b ≡ inside → (a ≡ inside) ⊎ (b ≡ inside)

@@ -13,8 +13,9 @@ use Rattle.integers.specs.Order.{_≼_, num, pos-≼, _⊠_, gap}
 use Rattle.integers.specs.Omega.{zarith}
 use Rattle.integers.specs.Inequalities.{from, _&_, weak}
 use Rattle.model.specs.Fractions.{Frac, Point}
+use Rattle.model.specs.Strips.{Strip}
 use Rattle.model.specs.Trees.{Tree}
-use Rattle.model.specs.Explore.{Cell, Answer, inside, away, maybe, verdict, exploreAll}
+use Rattle.model.specs.Explore.{Cell, Answer, inside, away, maybe, exploreAll}
 use Rattle.model.specs.Plates.{Verdict, doubtful, square, halfCorner, halfIndex, settled, drawn}
 use Rattle.model.specs.Exact.{Along, CellPoint}
 use Rattle.integers.specs.Within.{Within}
@@ -68,21 +69,21 @@ half-fits false i h f l = omega arith
 pub plate-side : (N M : ℕ) → M ≤ N → 2 ^ M * 2 ^ (N - M) ≡ 2 ^ N
 plate-side N M h = sym (pow-add 2 M (N - M)) ∙ ap (λ k. 2 ^ k) (omega arith)
 
--- ---- the square whose answer became the verdict
-pub record DrawnBy (r : ℤ) (ts : List Tree) (M : ℕ) (X Y : ℤ) (i j : ℕ) (x : Verdict) : Type 0 where
+-- ---- the square whose answer became the verdict, for any way v to judge
+pub record DrawnBy (v : Cell → Strip → Answer) (ts : List Tree) (M : ℕ) (X Y : ℤ) (i j : ℕ) (x : Verdict) : Type 0 where
   pub cell : Cell
   pub holds : (Q : Point) → CellPoint M X Y i j Q → InCell cell Q
   pub side : pos 0 ≼ cell .s
-  pub said : x ≡ settled (exploreAll (verdict r cell) ts) doubtful
-  pub last : exploreAll (verdict r cell) ts ≡ maybe → cell .s ≡ pos (8 * 2 ^ M)
+  pub said : x ≡ settled (exploreAll (v cell) ts) doubtful
+  pub last : exploreAll (v cell) ts ≡ maybe → cell .s ≡ pos (8 * 2 ^ M)
 
-module _ (r : ℤ) (ts : List Tree) (M : ℕ) where
+module _ (v : Cell → Strip → Answer) (ts : List Tree) (M : ℕ) where
   -- settled at a square itself: not maybe, or a smallest one
-  here : (n : ℕ) (X Y : ℤ) (i j : ℕ) → i < 2 ^ n → j < 2 ^ n → (exploreAll (verdict r (square X Y (2 ^ M * 2 ^ n))) ts ≡ maybe → pos (8 * (2 ^ M * 2 ^ n)) ≡ pos (8 * 2 ^ M)) → DrawnBy r ts M X Y i j (settled (exploreAll (verdict r (square X Y (2 ^ M * 2 ^ n))) ts) doubtful)
+  here : (n : ℕ) (X Y : ℤ) (i j : ℕ) → i < 2 ^ n → j < 2 ^ n → (exploreAll (v (square X Y (2 ^ M * 2 ^ n))) ts ≡ maybe → pos (8 * (2 ^ M * 2 ^ n)) ≡ pos (8 * 2 ^ M)) → DrawnBy v ts M X Y i j (settled (exploreAll (v (square X Y (2 ^ M * 2 ^ n))) ts) doubtful)
   here n X Y i j hi hj l = record { cell = square X Y (2 ^ M * 2 ^ n); holds = holds-all M n X Y i j hi hj; side = num (8 * (2 ^ M * 2 ^ n)); said = refl; last = l }
 
   -- in a quarter
-  in-quarter : (n : ℕ) (X Y : ℤ) (i j : ℕ) (x : Verdict) → DrawnBy r ts M (halfCorner (ltb i (2 ^ n)) X (2 ^ M * 2 ^ n)) (halfCorner (ltb j (2 ^ n)) Y (2 ^ M * 2 ^ n)) (halfIndex (ltb i (2 ^ n)) i (2 ^ n)) (halfIndex (ltb j (2 ^ n)) j (2 ^ n)) x → DrawnBy r ts M X Y i j x
+  in-quarter : (n : ℕ) (X Y : ℤ) (i j : ℕ) (x : Verdict) → DrawnBy v ts M (halfCorner (ltb i (2 ^ n)) X (2 ^ M * 2 ^ n)) (halfCorner (ltb j (2 ^ n)) Y (2 ^ M * 2 ^ n)) (halfIndex (ltb i (2 ^ n)) i (2 ^ n)) (halfIndex (ltb j (2 ^ n)) j (2 ^ n)) x → DrawnBy v ts M X Y i j x
   in-quarter n X Y i j x q = record {
     cell = q .cell;
     holds = λ Q s. q .holds Q (record {
@@ -95,19 +96,19 @@ module _ (r : ℤ) (ts : List Tree) (M : ℕ) where
   }
 
   -- a larger square: its own answer, or its quarter's
-  decide : (n : ℕ) (X Y : ℤ) (i j : ℕ) → i < 2 ^ suc n → j < 2 ^ suc n → (a : Answer) → exploreAll (verdict r (square X Y (2 ^ M * 2 ^ suc n))) ts ≡ a → (x : Verdict) → DrawnBy r ts M X Y i j x → DrawnBy r ts M X Y i j (settled a x)
+  decide : (n : ℕ) (X Y : ℤ) (i j : ℕ) → i < 2 ^ suc n → j < 2 ^ suc n → (a : Answer) → exploreAll (v (square X Y (2 ^ M * 2 ^ suc n))) ts ≡ a → (x : Verdict) → DrawnBy v ts M X Y i j x → DrawnBy v ts M X Y i j (settled a x)
   decide n X Y i j hi hj inside e x s =
       let z = here (suc n) X Y i j hi hj (λ m. clash (cc)) in
-      subst (λ a. DrawnBy r ts M X Y i j (settled a doubtful)) e z
+      subst (λ a. DrawnBy v ts M X Y i j (settled a doubtful)) e z
   decide n X Y i j hi hj away e x s =
       let z = here (suc n) X Y i j hi hj (λ m. clash (cc)) in
-      subst (λ a. DrawnBy r ts M X Y i j (settled a doubtful)) e z
+      subst (λ a. DrawnBy v ts M X Y i j (settled a doubtful)) e z
   decide n X Y i j hi hj maybe e x s = s
 
-  pub drawn-by : (n : ℕ) (X Y : ℤ) (i j : ℕ) → i < 2 ^ n → j < 2 ^ n → DrawnBy r ts M X Y i j (drawn r ts M n X Y i j)
+  pub drawn-by : (n : ℕ) (X Y : ℤ) (i j : ℕ) → i < 2 ^ n → j < 2 ^ n → DrawnBy v ts M X Y i j (drawn v ts M n X Y i j)
   unfolding drawn
   drawn-by zero X Y i j hi hj = here 0 X Y i j hi hj (λ m. ap (λ k. pos (8 * k)) (mul-one (2 ^ M)))
   drawn-by (suc n) X Y i j hi hj =
-      decide n X Y i j hi hj (exploreAll (verdict r (square X Y (2 ^ M * 2 ^ suc n))) ts) refl _
+      decide n X Y i j hi hj (exploreAll (v (square X Y (2 ^ M * 2 ^ suc n))) ts) refl _
       (in-quarter n X Y i j _ (drawn-by n (halfCorner (ltb i (2 ^ n)) X (2 ^ M * 2 ^ n)) (halfCorner (ltb j (2 ^ n)) Y (2 ^ M * 2 ^ n)) (halfIndex (ltb i (2 ^ n)) i (2 ^ n)) (halfIndex (ltb j (2 ^ n)) j (2 ^ n))
       (half-fits (ltb i (2 ^ n)) i (2 ^ n) (λ t. ltb→lt i (2 ^ n) t) (rw (pow-succ' 2 n) at hi)) (half-fits (ltb j (2 ^ n)) j (2 ^ n) (λ t. ltb→lt j (2 ^ n) t) (rw (pow-succ' 2 n) at hj))))

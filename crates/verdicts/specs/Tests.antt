@@ -12,11 +12,11 @@ use Rattle.integers.specs.Absolute.{absℤ, abs-nonneg}
 use Rattle.model.specs.Fractions.{Frac, Point, dist², Closer, Farther, AtMost, AtLeast}
 use Rattle.model.specs.Exact.{Points}
 use Rattle.model.specs.Strips.{Strip, fits, short}
-use Rattle.model.specs.Explore.{Cell, farthest, atLeast0, room, closest, farthest², closest², isInside, isAway₁, isAway₂, lengthOf, verdict}
+use Rattle.model.specs.Explore.{Cell, farthest, atLeast0, room, closest, farthest², closest², isInside, isAway₁, isAway₂, lengthOf, judged}
 use Rattle.integers.specs.Within.{Within}
 use Rattle.enclosure.specs.Covers.{In}
 use Rattle.integers.specs.Tests.{lt-true, lt-false, le-true, or-true, or-false, both}
-use Rattle.verdicts.specs.Answers.{judge-inside, judge-away, judge-maybe}
+use Rattle.verdicts.specs.Answers.{tests-inside, tests-away, tests-maybe}
 use Rattle.verdicts.specs.Apart.{InCell, apartX, apartY, apartD, apart-up, apart-is, spreadX, spreadY}
 use Rattle.verdicts.specs.Distances.{reach-bound, gap-bound, most-squared, least-squared, below, above, across-far, band-upper, band-lower, grown-reach, grown-gap}
 use Rattle.verdicts.specs.Roots.{root-reaches}
@@ -167,12 +167,12 @@ module _ (r T : ℤ) (c : Cell) (hr : pos 0 ≼ r) (hu : pos 0 ≼ spill (c .s) 
   close-is-upper : (P : Point) → AllCloser r c P → AllAtMost r T c P
   close-is-upper P f Q j = record { most = weaken-close r (spill (c .s) T) (dist² P Q .top) (dist² P Q .low) hr hu (dist² P Q .up) (f Q j .closer) }
 
-  pub verdict-sound : Sound T (verdict r c) (AllCloser r c) (AllFarther r c) (AllAtLeast r T c) (AllAtMost r T c)
-  verdict-sound = record {
-    if-inside = λ S P i e Q j. inside-means r c S P Q i j (judge-inside (isInside r c S) (isAway₁ r c S || isAway₂ r c S) e);
-    if-away = λ S P i e Q j. away-means r c S P Q i j hr (judge-away (isInside r c S) (isAway₁ r c S || isAway₂ r c S) e);
-    if-maybe-lower = λ S P i sh e Q j. not-inside-means r c S P Q i j T sh hu (judge-maybe (isInside r c S) (isAway₁ r c S || isAway₂ r c S) e .0);
-    if-maybe-upper = λ S P i sh e Q j. not-away-means r c S P Q i j T sh hr hu (or-false (isAway₁ r c S) (isAway₂ r c S) (judge-maybe (isInside r c S) (isAway₁ r c S || isAway₂ r c S) e .1) .0);
+  pub reach-sound : Sound T (judged r c) (AllCloser r c) (AllFarther r c) (AllAtLeast r T c) (AllAtMost r T c)
+  reach-sound = record {
+    if-inside = λ S P i e Q j. inside-means r c S P Q i j (tests-inside (isInside r c S) (isAway₁ r c S || isAway₂ r c S) e);
+    if-away = λ S P i e Q j. away-means r c S P Q i j hr (tests-away (isInside r c S) (isAway₁ r c S || isAway₂ r c S) e);
+    if-maybe-lower = λ S P i sh e Q j. not-inside-means r c S P Q i j T sh hu (tests-maybe (isInside r c S) (isAway₁ r c S || isAway₂ r c S) e .0);
+    if-maybe-upper = λ S P i sh e Q j. not-away-means r c S P Q i j T sh hr hu (or-false (isAway₁ r c S) (isAway₂ r c S) (tests-maybe (isInside r c S) (isAway₁ r c S || isAway₂ r c S) e .1) .0);
     far-lower = far-is-lower;
     near-upper = close-is-upper;
   }
