@@ -12,10 +12,10 @@ use Rattle.integers.specs.Omega.{zarith}
 use Rattle.integers.specs.Inequalities.{from, _&_}
 use Rattle.integers.specs.Absolute.{absℤ, abs-nonneg}
 use Rattle.model.specs.Strips.{Side}
-use Rattle.model.specs.Explore.{Answer, inside, away, maybe, farthest, isInside, judge, verdict}
+use Rattle.model.specs.Explore.{Answer, inside, away, maybe, farthest, isInside, byTests, judged}
 use Rattle.strip_tests.specs.PlainTests.{code}
 use Rattle.ranges.specs.Sizes.{SideSized}
-use Rattle.search.specs.Cells.{cellAt, Enough}
+use Rattle.search.specs.Probes.{cellAt, Enough}
 
 -- a number whose sign says that it is not below 0
 pub nonneg : (z : ℤ) → T (nonNeg z) → pos 0 ≼ z
@@ -32,7 +32,7 @@ far-side c s S hs f = far (absℤ (c -ℤ S .centre)) (absℤ (S .axis)) (S .box
 sum : (r s a b : ℤ) → r ≼ pos 2 *ℤ s *ℤ s → s *ℤ s ≼ a → s *ℤ s ≼ b → r ≼ a +ℤ b
 sum r s a b = name₄ r s a b λ σ x y z u. simp (x, y, z, u, reify, σ) (omega zarith)
 
-not-inside : (i w : Bool) → (i ≡ true → ⊥) → code (judge i w) ≤ 1
+not-inside : (i w : Bool) → (i ≡ true → ⊥) → code (byTests i w) ≤ 1
 not-inside true w f = absurd (f refl)
 not-inside false true f = omega arith
 not-inside false false f = omega arith
@@ -52,4 +52,4 @@ two maybe = omega arith
 
 pub any : (x y s r : ℤ) → Enough x y s r 2
 unfolding Enough
-any x y s r S f = two (verdict r (cellAt x y s) S)
+any x y s r S f = two (judged r (cellAt x y s) S)

@@ -1,2 +1,2 @@
 -- The cells that a search is asked of.
-pub mod Cells
+pub mod Probes

@@ -14,24 +14,51 @@ ghost use lib.Dec.{T, ltb};
 ghost use lib.ListN.{length};
 ghost use Rattle.model.specs.Trees.{Tree};
 ghost use Rattle.model.specs.Store.{width, flatten};
-ghost use Rattle.model.specs.Explore.{verdict, explore};
+ghost use Rattle.model.specs.Explore.{judged, explore};
 ghost use Rattle.ranges.specs.Sizes.{Sized, AllSized};
 ghost use Rattle.strip_tests.specs.PlainTests.{code};
 ghost use Rattle.subtrees.specs.Halves.{stripIn, TreeOf};
-ghost use Rattle.search.specs.Cells.{CellSized, cellAt, Enough};
+ghost use Rattle.search.specs.Probes.{CellSized, cellAt, judgedBy, Enough, Fair};
+
+// What a cell asks of every strip: the cell's centre and half side and the reach, in fine units, and the answer above which no strip goes.
+pub struct Probe {
+    pub x: i64,
+    pub y: i64,
+    pub s: i64,
+    pub r: i64,
+    pub enough: u8,
+}
+
+// 1 where the cell alone is too wide for a strip to be inside, else 2
+fn enough_for(s: i64, r: i64) -> u8
+    requires sizes { ⌜ (natAbs s ≤ 134217728) × T (nonNeg s) × (natAbs r ≤ 16777216) ⌝ }
+    ensures stop { λ e. ⌜ ((x y : ℤ) → Enough x y s r e) ⌝ }
+{
+    if r * r <= 2 * s * s { 1 } else { 2 }
+}
+
+// the probe of the cell at (x, y) of half side s
+pub fn probe_of(x: i64, y: i64, s: i64, r: i64) -> Probe
+    requires sizes { ⌜ CellSized x y s r ⌝ }
+    ensures fair { λ p. ⌜ Fair p ⌝ }
+    ensures cell { λ p. ⌜ judgedBy p ≡ judged r (cellAt x y s) ⌝ }
+{
+    let enough = enough_for(s, r);
+    Probe { x, y, s, r, enough }
+}
 
 // the answer of the first node of part by itself
-fn own(part: &[i32], x: i64, y: i64, s: i64, r: i64) -> u8
-    requires sizes { ⌜ (width ≤ length (now part)) × Sized (stripIn (now part)) × CellSized x y s r ⌝ }
-    ensures answer { λ a. ⌜ a ≡ code (verdict r (cellAt x y s) (stripIn (now (part .entry)))) ⌝ }
+fn own(part: &[i32], probe: Probe) -> u8
+    requires sizes { ⌜ (width ≤ length (now part)) × Sized (stripIn (now part)) × Fair probe ⌝ }
+    ensures answer { λ a. ⌜ a ≡ code (judgedBy probe (stripIn (now (part .entry)))) ⌝ }
 {
-    let wx = x - wide_at(part, 0);
-    let wy = y - wide_at(part, 1);
+    let wx = probe.x - wide_at(part, 0);
+    let wy = probe.y - wide_at(part, 1);
     let p = wide_at(part, 2);
     let q = wide_at(part, 3);
-    let a = wide_at(part, 4) + s;
-    let b = wide_at(part, 5) + s;
-    strip_tests::judge(wx, wy, p, q, a, b, r)
+    let a = wide_at(part, 4) + probe.s;
+    let b = wide_at(part, 5) + probe.s;
+    strip_tests::judge(wx, wy, p, q, a, b, probe.r)
 }
 
 fn join(l: u8, r: u8) -> u8
@@ -40,12 +67,12 @@ fn join(l: u8, r: u8) -> u8
     if l < r { r } else { l }
 }
 
-// the answer of the tree that part holds. No node answers above enough
-pub fn search(part: &[i32], x: i64, y: i64, s: i64, r: i64, enough: u8) -> u8
-    requires held { ⌜ TreeOf (now part) × CellSized x y s r × Enough x y s r enough ⌝ }
-    ensures answer { λ a. ⌜ ((t : Tree) → AllSized t → now (part .entry) ≡ flatten t → a ≡ code (explore (verdict r (cellAt x y s)) t)) ⌝ }
+// the answer of the tree that part holds
+pub fn search(part: &[i32], probe: Probe) -> u8
+    requires held { ⌜ TreeOf (now part) × Fair probe ⌝ }
+    ensures answer { λ a. ⌜ ((t : Tree) → AllSized t → now (part .entry) ≡ flatten t → a ≡ code (explore (judgedBy probe) t)) ⌝ }
 {
-    let here = own(part, x, y, s, r);
+    let here = own(part, probe);
     if here != 1 {
         return here;
     }
@@ -55,18 +82,11 @@ pub fn search(part: &[i32], x: i64, y: i64, s: i64, r: i64, enough: u8) -> u8
     }
     let nl = count_at(part, LEFT_COUNT);
     let mid = WIDTH + WIDTH * nl;
-    let left = search(&part[WIDTH..mid], x, y, s, r, enough);
+    let enough = probe.enough;
+    let left = search(&part[WIDTH..mid], probe);
     if enough <= left {
         return left;
     }
-    let right = search(&part[mid..], x, y, s, r, enough);
+    let right = search(&part[mid..], probe);
     join(left, right)
-}
-
-// 1 where the cell alone is too wide for a strip to be inside, else 2
-pub fn enough_for(s: i64, r: i64) -> u8
-    requires sizes { ⌜ (natAbs s ≤ 134217728) × T (nonNeg s) × (natAbs r ≤ 16777216) ⌝ }
-    ensures stop { λ e. ⌜ ((x y : ℤ) → Enough x y s r e) ⌝ }
-{
-    if r * r <= 2 * s * s { 1 } else { 2 }
 }

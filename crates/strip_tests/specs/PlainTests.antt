@@ -12,7 +12,7 @@ use Rattle.integers.specs.Absolute.{absℤ}
 use Rattle.integers.specs.RingSolver.{name₃, reify, close, ok}
 use Rattle.model.specs.Strips.{Strip}
 use Rattle.model.specs.Roots.{root}
-use Rattle.model.specs.Explore.{Cell, squares, atLeast0, isInside, isAway₁, isAway₂, Answer, inside, away, maybe, judge, verdict}
+use Rattle.model.specs.Explore.{Cell, squares, atLeast0, isInside, isAway₁, isAway₂, Answer, inside, away, maybe, byTests, judged}
 
 abbrev pub insideBy : ℤ → ℤ → ℤ → ℤ → ℤ → Bool
 insideBy ax ay ex ey r = ltZ (squares (ax +ℤ ex) (ay +ℤ ey)) (r *ℤ r)
@@ -37,7 +37,7 @@ slantedBy wx wy p q a b r = isBeyond (absℤ (wx *ℤ q -ℤ wy *ℤ p) -ℤ a *
 
 abbrev pub judgeBy : ℤ → ℤ → ℤ → ℤ → ℤ → ℤ → ℤ → Answer
 judgeBy wx wy p q a b r =
-    judge (insideBy (absℤ wx) (absℤ wy) (absℤ p +ℤ a) (absℤ q +ℤ b) r)
+    byTests (insideBy (absℤ wx) (absℤ wy) (absℤ p +ℤ a) (absℤ q +ℤ b) r)
     (apartBy (absℤ wx) (absℤ wy) (absℤ p +ℤ a) (absℤ q +ℤ b) r || slantedBy wx wy p q a b r)
 
 -- an answer as a number: joined, the larger holds
@@ -71,7 +71,7 @@ excess-gap : (w p A : ℤ) → excessBy w (p +ℤ A) ≡ atLeast0 (w -ℤ p -ℤ
 excess-gap w p A = excess-is (w -ℤ (p +ℤ A)) w (p +ℤ A) refl (ltZ w (p +ℤ A)) refl ∙ ap atLeast0 (less w p A)
 
 -- what the code asks of a node and a cell is the model's answer
-pub judge-is : (r : ℤ) (c : Cell) (S : Strip) → judgeBy (c .cx -ℤ S .x .centre) (c .cy -ℤ S .y .centre) (S .x .axis) (S .y .axis) (S .x .box +ℤ c .s) (S .y .box +ℤ c .s) r ≡ verdict r c S
+pub judge-is : (r : ℤ) (c : Cell) (S : Strip) → judgeBy (c .cx -ℤ S .x .centre) (c .cy -ℤ S .y .centre) (S .x .axis) (S .y .axis) (S .x .box +ℤ c .s) (S .y .box +ℤ c .s) r ≡ judged r c S
 unfolding isInside isAway₁ isAway₂
 judge-is r c S =
     let x : ℤ = absℤ (c .cx -ℤ S .x .centre) in
@@ -80,5 +80,5 @@ judge-is r c S =
     let q : ℤ = absℤ (S .y .axis) in
     let A : ℤ = S .x .box +ℤ c .s in
     let B : ℤ = S .y .box +ℤ c .s in
-    ap₂ judge (ap₂ (λ a b. ltZ (squares a b) (r *ℤ r)) (sum x p A) (sum y q B))
+    ap₂ byTests (ap₂ (λ a b. ltZ (squares a b) (r *ℤ r)) (sum x p A) (sum y q B))
     (ap (λ t. t || slantedBy (c .cx -ℤ S .x .centre) (c .cy -ℤ S .y .centre) (S .x .axis) (S .y .axis) A B r) (ap₂ (λ a b. ltZ (r *ℤ r) (squares a b)) (excess-gap x p A) (excess-gap y q B)))

@@ -7,18 +7,15 @@ use native.Mathlib.Omega.{arith}
 use lib.Dec.{ltb}
 use lib.IntN.{ℤ, pos, natAbs}
 use lib.ListN.{length, getD, take, drop}
-use mir.Syntax.{w64}
-use mir.Val.{toZ, ofZ}
-use mir.Facts.{toZ-ofZ}
 use Rattle.model.specs.Strips.{Strip}
 use Rattle.model.specs.Trees.{Tree}
-use Rattle.model.specs.Explore.{Answer, verdict, explore}
+use Rattle.model.specs.Explore.{Answer, explore}
 use Rattle.strip_tests.specs.PlainTests.{code}
 use Rattle.model.specs.Store.{width, flatten}
 use Rattle.ranges.specs.Sizes.{AllSized}
 use Rattle.subtrees.specs.Preorder.{countPlace}
 use Rattle.subtrees.specs.Halves.{stripIn, front, first-sized, counted, split, left-counted, Read, read, below}
-use Rattle.search.specs.Cells.{CellSized, Enough, cellAt}
+use Rattle.search.specs.Probes.{judgedBy, Enough}
 use Rattle.search.proofs.Finds.{join-is, most, closed, one, both, stop}
 use Prim.Native.Nat.{ℕ, _<_}
 use borrow.Fn.Kinds.{In}
@@ -49,18 +46,11 @@ list t c = c .args .part .now
 
 -- how a strip is judged
 abbrev by : (t : ℕ) → search-lts.Start (callees t) (search-at t) search′.Post → Strip → Answer
-by t c = verdict (c .args .r) (cellAt (c .args .x) (c .args .y) (c .args .s))
-
--- the arguments as a call gets them
-cell : (t : ℕ) (c : search-lts.Start (callees t) (search-at t) search′.Post) → CellSized (toZ w64 (ofZ w64 (c .args .x))) (toZ w64 (ofZ w64 (c .args .y))) (toZ w64 (ofZ w64 (c .args .s))) (toZ w64 (ofZ w64 (c .args .r)))
-cell t c = rw (toZ-ofZ (c .fits .x), toZ-ofZ (c .fits .y), toZ-ofZ (c .fits .s), toZ-ofZ (c .fits .r)) (c .pre .1 .1)
-
-enough : (t : ℕ) (c : search-lts.Start (callees t) (search-at t) search′.Post) → Enough (toZ w64 (ofZ w64 (c .args .x))) (toZ w64 (ofZ w64 (c .args .y))) (toZ w64 (ofZ w64 (c .args .s))) (toZ w64 (ofZ w64 (c .args .r))) (c .args .enough)
-enough t c = rw (toZ-ofZ (c .fits .x), toZ-ofZ (c .fits .y), toZ-ofZ (c .fits .s), toZ-ofZ (c .fits .r)) (c .pre .1 .2)
+by t c = judgedBy (c .args .probe)
 
 -- the node's own answer
 own-is : (t : ℕ) (c : search-lts.After-own (callees t) (search-at t) search′.Post) → c .own .result ≡ code (by t (c .before) (stripIn (list t (c .before))))
-own-is t c = let s = c .before in rw (toZ-ofZ (s .fits .x), toZ-ofZ (s .fits .y), toZ-ofZ (s .fits .s), toZ-ofZ (s .fits .r)) at (c .own .ensures)
+own-is t c = c .own .ensures
 
 maybe-is : (t : ℕ) (c : search-lts.Else1 (callees t) (search-at t) search′.Post) → code (by t (c .before .before) (stripIn (list t (c .before .before)))) ≡ 1
 maybe-is t c = sym (own-is t (c .before)) ∙ c .if1 .left
@@ -76,18 +66,18 @@ counts t c =
 
 -- what the calls found
 left-is : (t : ℕ) (c : search-lts.After-search (callees t) (search-at t) search′.Post) (a : Tree) → AllSized a → take (width + width * c .before .before .count-at2 .result - width) (drop width (list t (c .before .before .before .before .before .before .before))) ≡ flatten a → c .search .result ≡ code (explore (by t (c .before .before .before .before .before .before .before)) a)
-left-is t c a f e = let s = c .before .before .before .before .before .before .before in rw (toZ-ofZ (s .fits .x), toZ-ofZ (s .fits .y), toZ-ofZ (s .fits .s), toZ-ofZ (s .fits .r)) at (c .search .ensures a f e)
+left-is t c a f e = c .search .ensures a f e
 
 right-is : (t : ℕ) (c : search-lts.After-search2 (callees t) (search-at t) search′.Post) (a : Tree) → AllSized a → take (length (list t (c .before .before .before .before .before .before .before .before .before .before)) - (width + width * c .before .before .before .before .before .count-at2 .result)) (drop (width + width * c .before .before .before .before .before .count-at2 .result) (list t (c .before .before .before .before .before .before .before .before .before .before))) ≡ flatten a → c .search2 .result ≡ code (explore (by t (c .before .before .before .before .before .before .before .before .before .before)) a)
-right-is t c a f e = let s = c .before .before .before .before .before .before .before .before .before .before in rw (toZ-ofZ (s .fits .x), toZ-ofZ (s .fits .y), toZ-ofZ (s .fits .s), toZ-ofZ (s .fits .r)) at (c .search2 .ensures a f e)
+right-is t c a f e = c .search2 .ensures a f e
 
 -- no tree answers above what is enough
-at-most : (t : ℕ) (s : search-lts.Start (callees t) (search-at t) search′.Post) (a : Tree) → AllSized a → code (explore (by t s) a) ≤ s .args .enough
+at-most : (t : ℕ) (s : search-lts.Start (callees t) (search-at t) search′.Post) (a : Tree) → AllSized a → code (explore (by t s) a) ≤ s .args .probe .enough
 unfolding Enough
-at-most t s a f = most (by t s) (s .args .enough) (s .pre .1 .2) a f
+at-most t s a f = most (by t s) (s .args .probe .enough) (s .pre .1 .1 .stop) a f
 
 search-own-requires : (t : ℕ) → search-lts.Need-own-requires (callees t) (search-at t) search′.Post
-search-own-requires t c κs = (front (c .pre .1 .0), first-sized (c .pre .1 .0), cell t c)
+search-own-requires t c κs = (front (c .pre .1 .0), first-sized (c .pre .1 .0), c .pre .1 .1)
 
 search-returns : (t : ℕ) → search-lts.Need-returns (callees t) (search-at t) search′.Post
 search-returns t c = λ u f e. let s = c .before .before in closed (by t s) (list t s) (c .before .own .result) (own-is t (c .before)) (c .if1 .taken) u e
@@ -117,10 +107,10 @@ search-part-search-end : (t : ℕ) → search-lts.Need-part-search-end (callees 
 search-part-search-end t c = let k = counts t c in omega (arith, k .has .long)
 
 search-search-requires : (t : ℕ) → search-lts.Need-search-requires (callees t) (search-at t) search′.Post
-search-search-requires t c κs = let k = counts t (c .before) in (below (k .left) _ t (k .has .part-left) (omega (arith, k .has .k-is)), (record { tree = k .left; is = k .has .part-left; sized = k .left-sized }, cell t (c .before .before .before .before .before .before), enough t (c .before .before .before .before .before .before)))
+search-search-requires t c κs = let k = counts t (c .before) in (below (k .left) _ t (k .has .part-left) (omega (arith, k .has .k-is)), (record { tree = k .left; is = k .has .part-left; sized = k .left-sized }, c .before .before .before .before .before .before .pre .1 .1))
 
 search-returns-3 : (t : ℕ) → search-lts.Need-returns-3 (callees t) (search-at t) search′.Post
-search-returns-3 t c = let m = c .before .before .before in let s = c .before .before .before .before .before .before .before .before in both (by t s) (list t s) (m .count-at2 .result) (c .before .search .result) (maybe-is t (m .before .before .before)) (not-one t (m .before)) (m .count-at2 .ensures) (λ l r fl fr el er. stop (explore (by t s) l) (explore (by t s) r) (c .before .search .result) (s .args .enough) (left-is t (c .before) l fl el) (c .if3 .taken) (at-most t s r fr))
+search-returns-3 t c = let m = c .before .before .before in let s = c .before .before .before .before .before .before .before .before in both (by t s) (list t s) (m .count-at2 .result) (c .before .search .result) (maybe-is t (m .before .before .before)) (not-one t (m .before)) (m .count-at2 .ensures) (λ l r fl fr el er. stop (explore (by t s) l) (explore (by t s) r) (c .before .search .result) (s .args .probe .enough) (left-is t (c .before) l fl el) (c .if3 .taken) (at-most t s r fr))
 
 search-mul-search : (t : ℕ) → search-lts.Need-mul-search (callees t) (search-at t) search′.Post
 search-mul-search t c = let k = counts t (c .before .before .before) in omega (arith, k .has .long)
@@ -135,7 +125,7 @@ search-part-search-end-2 : (t : ℕ) → search-lts.Need-part-search-end-2 (call
 search-part-search-end-2 t c = omega arith
 
 search-search-requires-2 : (t : ℕ) → search-lts.Need-search-requires-2 (callees t) (search-at t) search′.Post
-search-search-requires-2 t c κs = let k = counts t (c .before .before .before .before) in (below (k .right) _ t (k .has .part-right) (omega (arith, k .has .k-is)), (record { tree = k .right; is = k .has .part-right; sized = k .right-sized }, cell t (c .before .before .before .before .before .before .before .before .before), enough t (c .before .before .before .before .before .before .before .before .before)))
+search-search-requires-2 t c κs = let k = counts t (c .before .before .before .before) in (below (k .right) _ t (k .has .part-right) (omega (arith, k .has .k-is)), (record { tree = k .right; is = k .has .part-right; sized = k .right-sized }, c .before .before .before .before .before .before .before .before .before .pre .1 .1))
 
 search-join-requires : (t : ℕ) → search-lts.Need-join-requires (callees t) (search-at t) search′.Post
 search-join-requires t c κs = tt

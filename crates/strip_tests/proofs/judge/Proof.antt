@@ -5,7 +5,7 @@ use lib.IntN.{_+ℤ_}
 use mathlib.Core.Path.{_≡_, refl, _∙_, sym}
 use Rattle.integers.specs.Absolute.{absℤ}
 use mathlib.Core.Bool.{Bool, true, false, _||_}
-use Rattle.model.specs.Explore.{judge}
+use Rattle.model.specs.Explore.{byTests}
 use Rattle.verdicts.specs.Answers.{clash}
 use Rattle.strip_tests.specs.PlainTests.{code, insideBy, apartBy, slantedBy}
 use borrow.Author.Needs.{needs}
@@ -49,19 +49,19 @@ module _ (c : tie.After-slanted) where
   slanted-is : c .slanted .result ≡ slantedBy (startS .args .wx) (startS .args .wy) (startS .args .p) (startS .args .q) (startS .args .a) (startS .args .b) (startS .args .r)
   slanted-is = rw (back (made startS .wx-made), back (made startS .wy-made), back (made startS .p-made), back (made startS .q-made), back (made startS .a-made), back (made startS .b-made), back (made startS .r-made)) at (c .slanted .ensures)
 
-by-inside : (i w : Bool) → i ≡ true → 2 ≡ code (judge i w)
+by-inside : (i w : Bool) → i ≡ true → 2 ≡ code (byTests i w)
 by-inside true w e = refl
 by-inside false w e = clash (cc)
 
-by-apart : (i a s : Bool) → i ≡ false → a ≡ true → 0 ≡ code (judge i (a || s))
+by-apart : (i a s : Bool) → i ≡ false → a ≡ true → 0 ≡ code (byTests i (a || s))
 by-apart false true s e f = refl
 by-apart true a s e f = clash (cc)
 by-apart false false s e f = clash (cc)
 
-by-slanted : (i a s : Bool) → i ≡ false → a ≡ false → s ≡ true → 0 ≡ code (judge i (a || s))
+by-slanted : (i a s : Bool) → i ≡ false → a ≡ false → s ≡ true → 0 ≡ code (byTests i (a || s))
 by-slanted i a s e f g = rw (e, f, g)
 
-by-none : (i a s : Bool) → i ≡ false → a ≡ false → s ≡ false → 1 ≡ code (judge i (a || s))
+by-none : (i a s : Bool) → i ≡ false → a ≡ false → s ≡ false → 1 ≡ code (byTests i (a || s))
 by-none i a s e f g = rw (e, f, g)
 
 abs-requires : tie.Need-abs-requires
