@@ -11,7 +11,7 @@ use mir.Val.{SFits, toZ, ofZ}
 use mir.Facts.{toZ-ofZ, toZ-pos}
 use Rattle.integers.specs.Signed.{Made, called, held, back, natAbs-add, natAbs-mul}
 use Rattle.inheritance.specs.Blocks.{middle}
-use Rattle.search.specs.Cells.{CellSized}
+use Rattle.search.specs.Probes.{CellSized}
 use Rattle.drawing.specs.declared.Frame.{Frame}
 use Rattle.drawing.specs.Ready.{FrameSized}
 

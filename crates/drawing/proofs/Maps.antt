@@ -21,12 +21,13 @@ use Rattle.sequences.specs.RowMajor.{rowMajor, length-rowMajor, is-rowMajor}
 use Rattle.model.specs.declared.Job.{Job}
 use Rattle.model.specs.Jobs.{plateLog, cellLog, judge}
 use Rattle.model.specs.Store.{forest}
-use Rattle.model.specs.Explore.{Cell, verdict, exploreAll}
+use Rattle.model.specs.Explore.{Cell, judged, exploreAll}
 use Rattle.model.specs.Plates.{doubtful, letter, settled, columns, mapped, mapOf}
 use Rattle.model.specs.Entries.{over as written}
 use Rattle.verdicts.specs.Legal.{Between, Coordinate, legal}
 use Rattle.verdicts.specs.Quartering.{plate-side}
 use Rattle.verdicts.specs.DemandThree.{forest-covers}
+use Rattle.inheritance.specs.Reach.{reach-judges}
 use Rattle.inheritance.specs.Edges.{EachInherits, covered-inherits}
 use Rattle.inheritance.specs.Drawn.{smallest, drawn-is}
 use Rattle.inheritance.specs.Blocks.{middle, block, smallest-is}
@@ -170,8 +171,8 @@ module _ (j : Job) (cells : List ℕ) (store : List ℤ) (h : MapReady j cells s
   }
 
 -- ---- the letters
-pub inherits : (j : Job) → judge j ≡ 0 → EachInherits (pos 16 *ℤ j .reach) (forest j)
-inherits j good = covered-inherits (pos 16 *ℤ j .reach) (num 16 ⊠ ≼-trans (num 1) (legal j good .reach-in .from)) (forest-covers j)
+pub inherits : (j : Job) → judge j ≡ 0 → EachInherits (judged (pos 16 *ℤ j .reach)) (forest j)
+inherits j good = covered-inherits (judged (pos 16 *ℤ j .reach)) (reach-judges (pos 16 *ℤ j .reach) (num 16 ⊠ ≼-trans (num 1) (legal j good .reach-in .from))) (forest-covers j)
 
 -- row k of the rows from one row on
 higher : (Y q R K : ℤ) → Y +ℤ pos 2 *ℤ R *ℤ q +ℤ (pos 2 *ℤ K +ℤ pos 1) *ℤ q ≡ Y +ℤ (pos 2 *ℤ (R +ℤ K) +ℤ pos 1) *ℤ q
@@ -187,8 +188,8 @@ row-of j row i k =
 pub own-is : (j : Job) → judge j ≡ 0 → (row i k : ℕ) → i < columns j → row + k < columns j → ownLetter (frameOf j row) (forest j) i k ≡ letter (mapped j i (row + k))
 unfolding mapped
 own-is j good row i k hi hk =
-    ap (λ (c : Cell). letter (settled (exploreAll (verdict (pos 16 *ℤ j .reach) c) (forest j)) doubtful)) (row-of j row i k)
-    ∙ ap letter (sym (drawn-is (pos 16 *ℤ j .reach) (forest j) (inherits j good) (cellLog j) (plateLog j - cellLog j) (j .x) (j .y) i (row + k) hi hk))
+    ap (λ (c : Cell). letter (settled (exploreAll (judged (pos 16 *ℤ j .reach) c) (forest j)) doubtful)) (row-of j row i k)
+    ∙ ap letter (sym (drawn-is (judged (pos 16 *ℤ j .reach)) (forest j) (inherits j good) (cellLog j) (plateLog j - cellLog j) (j .x) (j .y) i (row + k) hi hk))
 
 -- ---- the map: n rows are drawn, and what lies past them is as it was
 module _ (n : ℕ) (new old : List ℕ) (f : ℕ → ℕ → ℕ) (d : Drawn n new old (over f 0 0 n)) where

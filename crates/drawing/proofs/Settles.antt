@@ -14,14 +14,14 @@ use Rattle.inheritance.specs.Blocks.{block, block-part}
 use Rattle.search.proofs.Wide.{nonneg}
 use Rattle.filling.specs.Squares.{In}
 use Rattle.drawing.specs.declared.Frame.{Frame}
-use Rattle.drawing.specs.Letters.{asked, ownLetter}
+use Rattle.drawing.specs.Letters.{wayOf, asked, ownLetter}
 
-module _ (f : Frame) (hq : T (nonNeg (f .q))) (ts : List Tree) (each : EachInherits (f .reach) ts) (c r w i j : ℕ) (h : In c r w i j) where
+module _ (f : Frame) (hq : T (nonNeg (f .q))) (ts : List Tree) (each : EachInherits (wayOf f) ts) (c r w i j : ℕ) (h : In c r w i j) where
   part : PartOf (block (f .x) (f .y) (f .q) i j 1) (block (f .x) (f .y) (f .q) c r w)
   part = block-part (f .x) (f .y) (f .q) c r w i j (nonneg (f .q) hq) (h .left) (h .right) (h .low) (h .high)
 
   same : (a : Answer) → exploreAll (asked f c r w) ts ≡ a → letter (settled a (settled (exploreAll (asked f i j 1) ts) doubtful)) ≡ ownLetter f ts i j
-  same a e = ap letter (part-settled (f .reach) (block (f .x) (f .y) (f .q) c r w) (block (f .x) (f .y) (f .q) i j 1) part ts each a e _ refl)
+  same a e = ap letter (part-settled (wayOf f) (block (f .x) (f .y) (f .q) c r w) (block (f .x) (f .y) (f .q) i j 1) part ts each a e _ refl)
 
   pub letter-inside : exploreAll (asked f c r w) ts ≡ inside → 73 ≡ ownLetter f ts i j
   letter-inside e = same inside e
@@ -40,4 +40,4 @@ module _ (f : Frame) (hq : T (nonNeg (f .q))) (ts : List Tree) (each : EachInher
 
   -- the trees that are left out do not count
   pub letter-open : ownLetter f (opened (asked f c r w) ts) i j ≡ ownLetter f ts i j
-  letter-open = ap (λ a. letter (settled a doubtful)) (leave-out (f .reach) (block (f .x) (f .y) (f .q) c r w) (block (f .x) (f .y) (f .q) i j 1) part ts each)
+  letter-open = ap (λ a. letter (settled a doubtful)) (leave-out (wayOf f) (block (f .x) (f .y) (f .q) c r w) (block (f .x) (f .y) (f .q) i j 1) part ts each)

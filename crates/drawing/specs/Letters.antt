@@ -6,7 +6,7 @@ use Rattle.model.specs.declared.Job.{Job}
 use Rattle.model.specs.Jobs.{cellLog}
 use Rattle.model.specs.Strips.{Strip}
 use Rattle.model.specs.Trees.{Tree}
-use Rattle.model.specs.Explore.{Answer, verdict, exploreAll}
+use Rattle.model.specs.Explore.{Cell, Answer, judged, exploreAll}
 use Rattle.model.specs.Plates.{doubtful, letter, settled, columns}
 use Rattle.inheritance.specs.Blocks.{block}
 use Rattle.drawing.specs.declared.Frame.{Frame}
@@ -21,9 +21,13 @@ frameOf j row = record {
   reach = pos 16 *ℤ j .reach;
 }
 
--- how the block of w by w smallest cells at column c and row r of the frame judges a strip
+-- how a frame judges a strip for a cell; the laws of drawing take any way of which `Judges` holds
+abbrev pub wayOf : Frame → Cell → Strip → Answer
+wayOf f = judged (f .reach)
+
+-- what the block of w by w smallest cells at column c and row r of the frame asks
 abbrev pub asked : Frame → ℕ → ℕ → ℕ → Strip → Answer
-asked f c r w = verdict (f .reach) (block (f .x) (f .y) (f .q) c r w)
+asked f c r w = wayOf f (block (f .x) (f .y) (f .q) c r w)
 
 abbrev pub ownLetter : Frame → List Tree → ℕ → ℕ → ℕ
 ownLetter f ts i j = letter (settled (exploreAll (asked f i j 1) ts) doubtful)

@@ -11,14 +11,13 @@ ghost use lib.Signed.{nonNeg};
 ghost use lib.ListN.{length, take};
 ghost use Rattle.model.specs.Jobs.{judge, cellLog};
 ghost use Rattle.model.specs.Trees.{Tree};
-ghost use Rattle.model.specs.Explore.{exploreAll, inside};
 ghost use Rattle.model.specs.Plates.{columns, mapOf};
 ghost use Rattle.model.specs.Entries.{over as written};
-ghost use Rattle.inheritance.specs.Edges.{EachInherits, opened};
+ghost use Rattle.inheritance.specs.Edges.{EachInherits};
 ghost use Rattle.inheritance.specs.Blocks.{middle as middleOf};
-ghost use Rattle.open_edges.specs.Starts.{Starts};
+ghost use Rattle.open_edges.specs.Starts.{Starts, AllInside, StillOpen};
 ghost use Rattle.filling.specs.Squares.{In, over, Drawn};
-ghost use Rattle.drawing.specs.Letters.{frameOf, asked, ownLetter};
+ghost use Rattle.drawing.specs.Letters.{frameOf, wayOf, asked, ownLetter};
 ghost use Rattle.drawing.specs.Ready.{Ready, MapReady};
 
 // Where rows of a map lie: cells a row, the lower left corner of the first row and half a smallest cell's side in fine units, and the reach in
@@ -61,13 +60,14 @@ fn look(
     requires ready { ⌜ Ready (now store) (now list) count frame c r w ⌝ }
     requires long { ⌜ length (now keep) ≡ 64 ⌝ }
     ensures long { λ a. ⌜ length (now (keep .exit)) ≡ 64 ⌝ }
-    ensures yes { λ a. ⌜ (a .inside ≡ true → (ts : List Tree) → Starts (now (store .entry)) (take count (now (list .entry))) ts → exploreAll (asked frame c r w) ts ≡ inside) ⌝ }
-    ensures no { λ a. ⌜ (a .inside ≡ false → (a .kept ≤ count) × ((ts : List Tree) → Starts (now (store .entry)) (take count (now (list .entry))) ts → (exploreAll (asked frame c r w) ts ≡ inside → ⊥) × Starts (now (store .entry)) (take (a .kept) (now (keep .exit))) (opened (asked frame c r w) ts))) ⌝ }
+    ensures yes { λ a. ⌜ (a .inside ≡ true → AllInside (asked frame c r w) (now (store .entry)) (take count (now (list .entry)))) ⌝ }
+    ensures no { λ a. ⌜ (a .inside ≡ false → StillOpen (asked frame c r w) (now (store .entry)) (take count (now (list .entry))) count (a .kept) (now (keep .exit))) ⌝ }
 {
     let x = middle(frame.x, frame.q, c, w);
     let y = middle(frame.y, frame.q, r, w);
     let s = half_side(frame.q, w);
-    open_edges::explore_open(store, list, count, keep, x, y, s, frame.reach)
+    let probe = search::probe_of(x, y, s, frame.reach);
+    open_edges::explore_open(store, list, count, keep, probe)
 }
 
 // What the open trees tell of a block: the letter of all its cells, or 0 and how many trees are still open.
@@ -90,8 +90,8 @@ fn settle(
     requires ready { ⌜ Ready (now store) (now list) count frame c r w ⌝ }
     requires long { ⌜ length (now keep) ≡ 64 ⌝ }
     ensures long { λ a. ⌜ length (now (keep .exit)) ≡ 64 ⌝ }
-    ensures same { λ a. ⌜ ((a .letter ≡ 0 → ⊥) → (ts : List Tree) → Starts (now (store .entry)) (take count (now (list .entry))) ts → EachInherits (frame .reach) ts → (i j : ℕ) → In c r w i j → a .letter ≡ ownLetter frame ts i j) ⌝ }
-    ensures open { λ a. ⌜ (a .letter ≡ 0 → (w ≡ 1 → ⊥) × (a .kept ≤ count) × ((ts : List Tree) → Starts (now (store .entry)) (take count (now (list .entry))) ts → Starts (now (store .entry)) (take (a .kept) (now (keep .exit))) (opened (asked frame c r w) ts))) ⌝ }
+    ensures same { λ a. ⌜ ((a .letter ≡ 0 → ⊥) → (ts : List Tree) → Starts (now (store .entry)) (take count (now (list .entry))) ts → EachInherits (wayOf frame) ts → (i j : ℕ) → In c r w i j → a .letter ≡ ownLetter frame ts i j) ⌝ }
+    ensures open { λ a. ⌜ (a .letter ≡ 0 → (w ≡ 1 → ⊥) × StillOpen (asked frame c r w) (now (store .entry)) (take count (now (list .entry))) count (a .kept) (now (keep .exit))) ⌝ }
 {
     let seen = look(store, list, count, keep, frame, c, r, w);
     if seen.inside {
@@ -136,7 +136,7 @@ fn draw(
 )
     requires ready { ⌜ Ready (now store) (now list) count frame c r w ⌝ }
     requires space { ⌜ (r + w) * frame .n ≤ length (now map) ⌝ }
-    ensures letters { λ _. ⌜ ((ts : List Tree) → Starts (now (store .entry)) (take count (now (list .entry))) ts → EachInherits (frame .reach) ts → Drawn (frame .n) (now (map .exit)) (now (map .entry)) (over (ownLetter frame ts) c r w)) ⌝ }
+    ensures letters { λ _. ⌜ ((ts : List Tree) → Starts (now (store .entry)) (take count (now (list .entry))) ts → EachInherits (wayOf frame) ts → Drawn (frame .n) (now (map .exit)) (now (map .entry)) (over (ownLetter frame ts) c r w)) ⌝ }
 {
     let mut keep = no_starts();
     let told = settle(store, list, count, &mut keep, frame, c, r, w);

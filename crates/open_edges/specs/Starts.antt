@@ -1,11 +1,15 @@
 -- Trees in a store, by the places where they start. Assumes nothing.
+use mathlib.Core.Path.{_≡_}
 use mathlib.Core.List.{List, [], _∷_}
-use Prim.Native.Nat.{ℕ}
+use Prim.Native.Nat.{ℕ, _≤_}
 use lib.IntN.{ℤ}
-use lib.ListN.{drop}
+use lib.ListN.{drop, take}
+use Rattle.model.specs.Strips.{Strip}
 use Rattle.model.specs.Trees.{Tree}
+use Rattle.model.specs.Explore.{Answer, inside, exploreAll}
 use Rattle.ranges.specs.Sizes.{AllSized}
 use Rattle.subtrees.specs.Preorder.{Begins}
+use Rattle.inheritance.specs.Edges.{opened}
 
 -- the tree t starts at place a
 pub record At (store : List ℤ) (a : ℕ) (t : Tree) : Type 0 where
@@ -24,3 +28,14 @@ pub data Starts (store : List ℤ) : List ℕ → List Tree → Type 0 where
 pub record Forest (store : List ℤ) (ps : List ℕ) : Type 0 where
   pub trees : List Tree
   pub starts : Starts store ps trees
+
+-- ---- what the trees at places ps tell, judged by v
+-- they are inside
+pub record AllInside (v : Strip → Answer) (store : List ℤ) (ps : List ℕ) : Type 0 where
+  pub is-inside : (ts : List Tree) → Starts store ps ts → exploreAll v ts ≡ inside
+
+-- they are not, and the first `kept` of `keep`, at most `count`, are the places of those that are not away
+pub record StillOpen (v : Strip → Answer) (store : List ℤ) (ps : List ℕ) (count kept : ℕ) (keep : List ℕ) : Type 0 where
+  pub fewer : kept ≤ count
+  pub not-inside : (ts : List Tree) → Starts store ps ts → exploreAll v ts ≡ inside → ⊥
+  pub still : (ts : List Tree) → Starts store ps ts → Starts store (take kept keep) (opened v ts)

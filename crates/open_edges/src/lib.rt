@@ -2,27 +2,27 @@
 // away, so that no part of the cell asks them again.
 use arithmetic::COUNT;
 use arithmetic::WIDTH;
+use search::Probe;
 ghost use mathlib.Core.Path.{_≡_};
 ghost use mathlib.Core.Bool.{true, false};
 ghost use mathlib.Core.List.{List};
 ghost use Prim.Native.Nat.{_≤_};
 ghost use lib.ListN.{length, take};
 ghost use Rattle.model.specs.Trees.{Tree};
-ghost use Rattle.model.specs.Explore.{verdict, explore, exploreAll, inside};
-ghost use Rattle.inheritance.specs.Edges.{opened};
+ghost use Rattle.model.specs.Explore.{explore};
 ghost use Rattle.strip_tests.specs.PlainTests.{code};
-ghost use Rattle.search.specs.Cells.{CellSized, cellAt, Enough};
+ghost use Rattle.search.specs.Probes.{judgedBy, Fair};
 ghost use Rattle.subtrees.specs.Fronts.{Holds, TreesOf};
-ghost use Rattle.open_edges.specs.Starts.{At, TreeAt, Starts, Forest};
+ghost use Rattle.open_edges.specs.Starts.{At, TreeAt, Starts, Forest, AllInside, StillOpen};
 
 // the answer of the tree that starts at place a
-fn ask(store: &[i32], a: usize, x: i64, y: i64, s: i64, r: i64, enough: u8) -> u8
-    requires held { ⌜ TreeAt (now store) a × CellSized x y s r × Enough x y s r enough ⌝ }
-    ensures answer { λ e. ⌜ ((t : Tree) → At (now (store .entry)) a t → e ≡ code (explore (verdict r (cellAt x y s)) t)) ⌝ }
+fn ask(store: &[i32], a: usize, probe: Probe) -> u8
+    requires held { ⌜ TreeAt (now store) a × Fair probe ⌝ }
+    ensures answer { λ e. ⌜ ((t : Tree) → At (now (store .entry)) a t → e ≡ code (explore (judgedBy probe) t)) ⌝ }
 {
     let n = arithmetic::count_at(store, a + COUNT);
     let b = a + WIDTH * n;
-    search::search(&store[a..b], x, y, s, r, enough)
+    search::search(&store[a..b], probe)
 }
 
 // Whether some tree is inside, and if none is, how many are not away.
@@ -37,22 +37,18 @@ pub fn explore_open(
     list: &[usize; 64],
     count: usize,
     keep: &mut [usize; 64],
-    x: i64,
-    y: i64,
-    s: i64,
-    r: i64,
+    probe: Probe,
 ) -> Seen
-    requires held { ⌜ (count ≤ 64) × Forest (now store) (take count (now list)) × CellSized x y s r × (length (now list) ≡ 64) × (length (now keep) ≡ 64) ⌝ }
+    requires held { ⌜ (count ≤ 64) × Forest (now store) (take count (now list)) × Fair probe × (length (now list) ≡ 64) × (length (now keep) ≡ 64) ⌝ }
     ensures long { λ a. ⌜ length (now (keep .exit)) ≡ 64 ⌝ }
-    ensures yes { λ a. ⌜ (a .inside ≡ true → (ts : List Tree) → Starts (now (store .entry)) (take count (now (list .entry))) ts → exploreAll (verdict r (cellAt x y s)) ts ≡ inside) ⌝ }
-    ensures no { λ a. ⌜ (a .inside ≡ false → (a .kept ≤ count) × ((ts : List Tree) → Starts (now (store .entry)) (take count (now (list .entry))) ts → (exploreAll (verdict r (cellAt x y s)) ts ≡ inside → ⊥) × Starts (now (store .entry)) (take (a .kept) (now (keep .exit))) (opened (verdict r (cellAt x y s)) ts))) ⌝ }
+    ensures yes { λ a. ⌜ (a .inside ≡ true → AllInside (judgedBy probe) (now (store .entry)) (take count (now (list .entry)))) ⌝ }
+    ensures no { λ a. ⌜ (a .inside ≡ false → StillOpen (judgedBy probe) (now (store .entry)) (take count (now (list .entry))) count (a .kept) (now (keep .exit))) ⌝ }
 {
-    let enough = search::enough_for(s, r);
     let mut kept: usize = 0;
     let mut k: usize = 0;
     while k < count {
         let a = list[k];
-        let answer = ask(store, a, x, y, s, r, enough);
+        let answer = ask(store, a, probe);
         if answer == 2 {
             return Seen {
                 inside: true,

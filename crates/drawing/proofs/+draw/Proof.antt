@@ -8,7 +8,7 @@ use lib.ListN.{length, take}
 use Rattle.model.specs.Trees.{Tree}
 use Rattle.inheritance.specs.Edges.{opened, opened-inherits}
 use Rattle.open_edges.specs.Starts.{Starts}
-use Rattle.drawing.specs.Letters.{asked, ownLetter}
+use Rattle.drawing.specs.Letters.{wayOf, asked, ownLetter}
 use Rattle.drawing.specs.Ready.{Ready}
 use Rattle.drawing.proofs.Settles.{letter-open}
 use Rattle.drawing.proofs.Quartered.{Halved, halved, ready-quarter, drawn-agree, drawn-quarters}
@@ -79,13 +79,13 @@ module _ (t : ℕ) (e : draw-lts.Else1 (callees t) (draw-at t) draw.Post) where
   halves = halved (start .args .w) (ready .power) (e .before .settle .ensures .1 .1 (e .if1 .left) .0)
 
   still : (ts : List Tree) → Starts (start .args .store .now) (take (start .args .count) (start .args .list .now)) ts → Starts (start .args .store .now) (take kept keep) (opened (asked (start .args .frame) (start .args .c) (start .args .r) (start .args .w)) ts)
-  still = e .before .settle .ensures .1 .1 (e .if1 .left) .2
+  still = e .before .settle .ensures .1 .1 (e .if1 .left) .1 .still
 
   falls-to : half < t
   falls-to = omega (arith, start .pre .0, halves .less)
 
   quarter : (x y : ℕ) → x + half ≤ start .args .frame .n → y + half ≤ start .args .frame .n → Ready (start .args .store .now) keep kept (start .args .frame) x y half
-  quarter x y hx hy = ready-quarter ready keep kept (e .before .settle .ensures .0) (e .before .settle .ensures .1 .1 (e .if1 .left) .1) still x y half (halves .power) hx hy
+  quarter x y hx hy = ready-quarter ready keep kept (e .before .settle .ensures .0) (e .before .settle .ensures .1 .1 (e .if1 .left) .1 .fewer) still x y half (halves .power) hx hy
 
   left : start .args .c + half ≤ start .args .frame .n
   left = omega (arith, halves .whole, ready .columns-fit)
@@ -161,7 +161,7 @@ draw-returns-2 t c =
     λ ts h each.
     let us : List Tree = opened (asked (a .frame) (a .c) (a .r) (a .w)) ts in
     let hu = still t e ts h in
-    let eu = opened-inherits (a .frame .reach) (asked (a .frame) (a .c) (a .r) (a .w)) ts each in
+    let eu = opened-inherits (wayOf (a .frame)) (asked (a .frame) (a .c) (a .r) (a .w)) ts each in
     drawn-agree (a .frame .n) (d₄ .last .0) (a .map .now) (ownLetter (a .frame) us) (ownLetter (a .frame) ts) (a .c) (a .r) (a .w)
     (drawn-quarters (a .frame .n) (a .map .now) (d₁ .last .0) (d₂ .last .0) (d₃ .last .0) (d₄ .last .0) (ownLetter (a .frame) us) (a .c) (a .r) (a .w) (half t e) (halves t e .whole)
     (d₁ .ensures us hu eu) (d₂ .ensures us hu eu) (d₃ .ensures us hu eu) (d₄ .ensures us hu eu))

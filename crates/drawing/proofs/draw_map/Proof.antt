@@ -11,7 +11,7 @@ use Rattle.inheritance.specs.Edges.{EachInherits}
 use Rattle.open_edges.specs.Starts.{Starts}
 use Rattle.filling.specs.Squares.{over, Drawn}
 use Rattle.drawing.specs.declared.Frame.{Frame}
-use Rattle.drawing.specs.Letters.{ownLetter}
+use Rattle.drawing.specs.Letters.{wayOf, ownLetter}
 use Rattle.drawing.specs.Ready.{Ready, MapReady}
 use Rattle.drawing.proofs.Maps.{held, count-most, whole-ready, inherits, map-is}
 use Rattle.drawing.proofs.draw_map.Statement.{statement}
@@ -46,8 +46,8 @@ module _ (c : tie.After-frame-of) where
   starts : Starts (start .args .store .now) (take (job .count) list) (forest job)
   starts = c .before .list-starts .ensures .1 (forest job) (held job (start .args .cells .now) (start .args .store .now) (start .pre))
 
-  each : EachInherits (c .frame-of .result .reach) (forest job)
-  each = subst (λ (f : Frame). EachInherits (f .reach) (forest job)) (sym (c .frame-of .ensures)) (inherits job (start .pre .accepted))
+  each : EachInherits (wayOf (c .frame-of .result)) (forest job)
+  each = subst (λ (f : Frame). EachInherits (wayOf f) (forest job)) (sym (c .frame-of .ensures)) (inherits job (start .pre .accepted))
 
   ready : Ready (start .args .store .now) list (job .count) (c .frame-of .result) 0 0 (c .frame-of .result .n) × ((0 + c .frame-of .result .n) * c .frame-of .result .n ≤ length (start .args .cells .now))
   ready =

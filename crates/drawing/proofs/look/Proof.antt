@@ -1,11 +1,15 @@
 -- `drawing::look` meets its contract: the block's cell is handed to the walk over the open trees. Assumes nothing.
-use mathlib.Core.Path.{_≡_}
+use mathlib.Core.Path.{_≡_, subst}
+use lib.ListN.{take}
 use lib.IntN.{pos, _*ℤ_}
 use mir.Syntax.{w64}
 use mir.Val.{toZ, ofZ}
 use Rattle.integers.specs.Signed.{read64}
 use Rattle.inheritance.specs.Blocks.{middle}
 use Rattle.drawing.specs.declared.Frame.{Frame}
+use Rattle.search.specs.Probes.{judgedBy}
+use Rattle.open_edges.specs.Starts.{AllInside, StillOpen}
+use Rattle.drawing.specs.Letters.{asked}
 use Rattle.drawing.specs.Ready.{FrameSized}
 use Rattle.drawing.proofs.Cells.{x-back, y-back, q-back, reach-back, block-sized, middle-asked, half-asked, middle-is, half-is}
 use Rattle.drawing.proofs.look.Statement.{statement}
@@ -56,17 +60,35 @@ module _ (c : tie.After-half-side) where
   s-is : toZ w64 (ofZ w64 (c .half-side .result)) ≡ pos (start .args .w) *ℤ frame .q
   s-is = half-is (c .half-side .result) (frame .q) (start .args .w) (q-back frame sized) (read64 (c .half-side .result) (c .half-side .ok)) (c .half-side .ensures)
 
-explore-open-requires : tie.Need-explore-open-requires
-explore-open-requires c κs =
-    let h = c .before .before in
+probe-of-requires : tie.Need-probe-of-requires
+probe-of-requires c κs =
+    let h = c .before in
     let s = start h in
     let p = s .pre .0 in
-    (p .count-most, p .trees, rw (x-is h, y-is h, s-is h, reach-back (frame h) (sized h)) (block-sized (frame h) (sized h) (s .args .c) (s .args .r) (s .args .w) (p .columns-fit) (p .rows-fit)), p .list-long, s .pre .1)
+    rw (x-is h, y-is h, s-is h, reach-back (frame h) (sized h)) (block-sized (frame h) (sized h) (s .args .c) (s .args .r) (s .args .w) (p .columns-fit) (p .rows-fit))
+
+-- the probe judges as the block does
+probed : (c : tie.After-probe-of) → judgedBy (c .probe-of .result) ≡ asked (frame (c .before .before)) (start (c .before .before) .args .c) (start (c .before .before) .args .r) (start (c .before .before) .args .w)
+probed c =
+    let h = c .before .before in
+    rw (x-is h, y-is h, s-is h, reach-back (frame h) (sized h)) at (c .probe-of .ensures .1)
+
+explore-open-requires : tie.Need-explore-open-requires
+explore-open-requires c κs =
+    let p = start (c .before .before .before) .pre in
+    (p .0 .count-most, p .0 .trees, c .before .probe-of .ensures .0, p .0 .list-long, p .1)
 
 returns : tie.Need-returns
 returns c =
-    let h = c .before .before .before in
-    rw (x-is h, y-is h, s-is h, reach-back (frame h) (sized h)) at (c .explore-open .ensures)
+    let b = c .before .before in
+    let s = start (b .before .before) in
+    let o = c .explore-open in (
+      o .ensures .0,
+      (
+        (λ e. subst (λ v. AllInside v (s .args .store .now) (take (s .args .count) (s .args .list .now))) (probed b) (o .ensures .1 .0 e)),
+        λ e. subst (λ v. StillOpen v (s .args .store .now) (take (s .args .count) (s .args .list .now)) (s .args .count) (o .result .kept) (o .last .1 .1 .1 .0)) (probed b) (o .ensures .1 .1 e),
+      ),
+    )
 
 pub look-spec : {M : Type 1} → statement M
-look-spec = tie.close (tie.spec middle-requires middle-requires-2 half-side-requires explore-open-requires returns)
+look-spec = tie.close (tie.spec middle-requires middle-requires-2 half-side-requires probe-of-requires explore-open-requires returns)

@@ -30,13 +30,13 @@ module _ (c : tie.Else1) where
   long = c .before .look .ensures .0
 
   few : c .before .look .result .kept ≤ start .args .count
-  few = c .before .look .ensures .1 .1 (c .if1 .left) .0
+  few = c .before .look .ensures .1 .1 (c .if1 .left) .fewer
 
   not-inside : (ts : List Tree) → Starts (start .args .store .now) (take (start .args .count) (start .args .list .now)) ts → exploreAll (asked (start .args .frame) (start .args .c) (start .args .r) (start .args .w)) ts ≡ inside → ⊥
-  not-inside ts h = c .before .look .ensures .1 .1 (c .if1 .left) .1 ts h .0
+  not-inside = c .before .look .ensures .1 .1 (c .if1 .left) .not-inside
 
   still : (ts : List Tree) → Starts (start .args .store .now) (take (start .args .count) (start .args .list .now)) ts → Starts (start .args .store .now) (take (c .before .look .result .kept) keep) (opened (asked (start .args .frame) (start .args .c) (start .args .r) (start .args .w)) ts)
-  still ts h = c .before .look .ensures .1 .1 (c .if1 .left) .1 ts h .1
+  still = c .before .look .ensures .1 .1 (c .if1 .left) .still
 
   room : c .before .look .result .kept ≤ length keep
   room = omega (arith, few, long, start .pre .0 .count-most)
@@ -47,7 +47,7 @@ returns c =
     let f = s .args .frame in (
       c .before .look .ensures .0,
       (
-        (λ n ts h each i j m. letter-inside f (s .pre .0 .frame-sized .q-nonneg) ts each (s .args .c) (s .args .r) (s .args .w) i j m (c .before .look .ensures .1 .0 (c .if1 .taken) ts h)),
+        (λ n ts h each i j m. letter-inside f (s .pre .0 .frame-sized .q-nonneg) ts each (s .args .c) (s .args .r) (s .args .w) i j m (c .before .look .ensures .1 .0 (c .if1 .taken) .is-inside ts h)),
         λ e. absurd (omega arith),
       ),
     )
@@ -90,7 +90,7 @@ returns-3 c =
 returns-4 : tie.Need-returns-4
 returns-4 c =
     let d = c .before .before in
-    (long d, ((λ n. absurd (n refl)), λ e. (c .if3 .left, few d, still d)))
+    (long d, ((λ n. absurd (n refl)), λ e. (c .if3 .left, d .before .look .ensures .1 .1 (d .if1 .left))))
 
 pub settle-spec : {M : Type 1} → statement M
 settle-spec = tie.close (tie.spec look-requires returns returns-2 returns-3 returns-4)

@@ -1,9 +1,5 @@
 -- `open_edges::ask` meets its contract: the tree's part is found by its count. Assumes nothing.
 use native.Mathlib.Omega.{arith}
-use mir.Facts.{toZ-ofZ}
-use mir.Syntax.{w64}
-use mir.Val.{toZ, ofZ}
-use Rattle.search.specs.Cells.{CellSized, Enough}
 use Rattle.open_edges.proofs.Asks.{front, Here, here}
 use borrow.Author.Needs.{needs}
 use Rattle.open_edges.proofs.ask.Statement.{statement}
@@ -11,12 +7,6 @@ use Rattle.open_edges.proofs.ask.Tie as tie
 
 known : (c : tie.After-count-at) → Here (c .before .args .store .now) (c .before .args .a) (c .count-at .result) (c .before .pre .0 .tree)
 known c = let s = c .before in here (s .args .store .now) (s .args .a) (c .count-at .result) (s .pre .0 .tree) (s .pre .0 .at) (c .count-at .ensures)
-
-cell : (c : tie.Start) → CellSized (toZ w64 (ofZ w64 (c .args .x))) (toZ w64 (ofZ w64 (c .args .y))) (toZ w64 (ofZ w64 (c .args .s))) (toZ w64 (ofZ w64 (c .args .r)))
-cell c = rw (toZ-ofZ (c .fits .x), toZ-ofZ (c .fits .y), toZ-ofZ (c .fits .s), toZ-ofZ (c .fits .r)) (c .pre .1)
-
-enough : (c : tie.Start) → Enough (toZ w64 (ofZ w64 (c .args .x))) (toZ w64 (ofZ w64 (c .args .y))) (toZ w64 (ofZ w64 (c .args .s))) (toZ w64 (ofZ w64 (c .args .r))) (c .args .enough)
-enough c = rw (toZ-ofZ (c .fits .x), toZ-ofZ (c .fits .y), toZ-ofZ (c .fits .s), toZ-ofZ (c .fits .r)) (c .pre .2)
 
 add-count-at : tie.Need-add-count-at
 add-count-at c = omega (arith, front (c .args .store .now) (c .args .a) (c .pre .0 .tree) (c .pre .0 .at) .0)
@@ -43,10 +33,10 @@ part-search-end : tie.Need-part-search-end
 part-search-end c = omega (arith, known c .long)
 
 search-requires : tie.Need-search-requires
-search-requires c κs = let s = c .before .before in (record { tree = s .pre .0 .tree; is = known (c .before) .part; sized = s .pre .0 .at .sized }, cell s, enough s)
+search-requires c κs = let s = c .before .before in (record { tree = s .pre .0 .tree; is = known (c .before) .part; sized = s .pre .0 .at .sized }, s .pre .1)
 
 returns : tie.Need-returns
-returns c = λ t h. let s = c .before .before .before in rw (toZ-ofZ (s .fits .x), toZ-ofZ (s .fits .y), toZ-ofZ (s .fits .s), toZ-ofZ (s .fits .r)) at (c .search .ensures t (h .sized) (here (s .args .store .now) (s .args .a) (c .before .before .count-at .result) t h (c .before .before .count-at .ensures) .part))
+returns c = λ t h. let s = c .before .before .before in c .search .ensures t (h .sized) (here (s .args .store .now) (s .args .a) (c .before .before .count-at .result) t h (c .before .before .count-at .ensures) .part)
 
 pub ask-spec : {M : Type 1} → statement M
 ask-spec =

@@ -9,30 +9,24 @@ use Prim.Native.Nat.{ℕ, _-_, _≤_, _<_}
 use mathlib.Core.Path.{_≡_, _∙_}
 use native.Mathlib.Omega.{arith}
 use lib.ListN.{length, take, getD, length-set}
-use mir.Syntax.{w64}
-use mir.Val.{toZ, ofZ}
-use mir.Facts.{toZ-ofZ}
-use Rattle.model.specs.Explore.{Answer, inside, verdict, explore, exploreAll}
-use Rattle.search.specs.Cells.{CellSized, cellAt}
+use Rattle.model.specs.Explore.{Answer, inside, explore, exploreAll}
+use Rattle.search.specs.Probes.{judgedBy}
 use Rattle.open_edges.specs.Starts.{Starts}
 use Rattle.open_edges.specs.Looked.{Looked, begin, next-away, next-maybe, last-inside, tree-at, finish, is-inside, is-maybe, is-away}
 use Rattle.open_edges.proofs.explore_open.Statement.{statement}
 use Rattle.open_edges.proofs.explore_open.Tie as tie
 
 abbrev Inv-loop : tie.InvT-loop
-Inv-loop store list count keep₀ x y s r enough kept₀ k₀ keep kept k = (k ≤ count) × (kept ≤ k) × Looked store (verdict (toZ w64 r) (cellAt (toZ w64 x) (toZ w64 y) (toZ w64 s))) (take count list) keep kept k × (length keep ≡ 64)
+Inv-loop store list count keep₀ probe kept₀ k₀ keep kept k = (k ≤ count) × (kept ≤ k) × Looked store (judgedBy probe) (take count list) keep kept k × (length keep ≡ 64)
 
 abbrev μ-loop : tie.MeasureT-loop
-μ-loop store list count keep₀ x y s r enough kept₀ k₀ keep kept k = count - k
+μ-loop store list count keep₀ probe kept₀ k₀ keep kept k = count - k
 
 abbrev by : tie.Start Inv-loop μ-loop → Strip → Answer
-by c = verdict (toZ w64 (ofZ w64 (c .args .r))) (cellAt (toZ w64 (ofZ w64 (c .args .x))) (toZ w64 (ofZ w64 (c .args .y))) (toZ w64 (ofZ w64 (c .args .s))))
+by c = judgedBy (c .args .probe)
 
 abbrev places : tie.Start Inv-loop μ-loop → List ℕ
 places c = take (c .args .count) (c .args .list .now)
-
-cell : (c : tie.Start Inv-loop μ-loop) → CellSized (toZ w64 (ofZ w64 (c .args .x))) (toZ w64 (ofZ w64 (c .args .y))) (toZ w64 (ofZ w64 (c .args .s))) (toZ w64 (ofZ w64 (c .args .r)))
-cell c = rw (toZ-ofZ (c .fits .x), toZ-ofZ (c .fits .y), toZ-ofZ (c .fits .s), toZ-ofZ (c .fits .r)) (c .pre .2)
 
 list-long : (c : tie.Start Inv-loop μ-loop) → length (c .args .list .now) ≡ 64
 list-long c = c .pre .3
@@ -44,53 +38,49 @@ places-long : (c : tie.Start Inv-loop μ-loop) → length (places c) ≡ c .args
 places-long c = length-take-le (c .args .count) (c .args .list .now) (omega (arith, list-long c, c .pre .0))
 
 -- the place that was read
-read : (c : tie.In-loop Inv-loop μ-loop) → getD (places (c .before .before .before)) (c .before .loop .k) 0 ≡ getD (c .before .before .before .args .list .now) (c .before .loop .k) 0
-read c = getD-take (c .before .before .before .args .count) (c .before .before .before .args .list .now) (c .before .loop .k) 0 (c .loop-test .taken)
+read : (c : tie.In-loop Inv-loop μ-loop) → getD (places (c .before .before)) (c .before .loop .k) 0 ≡ getD (c .before .before .args .list .now) (c .before .loop .k) 0
+read c = getD-take (c .before .before .args .count) (c .before .before .args .list .now) (c .before .loop .k) 0 (c .loop-test .taken)
 
-below : (c : tie.In-loop Inv-loop μ-loop) → c .before .loop .k < length (places (c .before .before .before))
-below c = omega (arith, places-long (c .before .before .before), c .loop-test .taken)
-
-enough-for-requires : tie.Need-enough-for-requires Inv-loop μ-loop
-enough-for-requires c κs =
-    let f = cell c in (f .s-size, f .s-nonneg, f .reach-sized .r-size)
+below : (c : tie.In-loop Inv-loop μ-loop) → c .before .loop .k < length (places (c .before .before))
+below c = omega (arith, places-long (c .before .before), c .loop-test .taken)
 
 loop-holds : tie.Need-loop-holds Inv-loop μ-loop
 loop-holds c =
-    (omega arith, omega arith, begin (c .before .args .store .now) (by (c .before)) (places (c .before)) (c .before .args .keep .now), c .before .pre .4)
+    (omega arith, omega arith, begin (c .args .store .now) (by (c)) (places (c)) (c .args .keep .now), c .pre .4)
 
 mul-a : tie.Need-mul-a Inv-loop μ-loop
 mul-a c =
-    omega (arith, c .before .before .before .pre .0, c .loop-test .taken)
+    omega (arith, c .before .before .pre .0, c .loop-test .taken)
 
 element-copy-out-a : tie.Need-element-copy-out-a Inv-loop μ-loop
 element-copy-out-a c =
-    omega (arith, c .before .before .before .pre .0, c .loop-test .taken)
+    omega (arith, c .before .before .pre .0, c .loop-test .taken)
 
 ask-requires : tie.Need-ask-requires Inv-loop μ-loop
 ask-requires c κs =
-    let s = c .before .before .before .before in (tree-at (c .before .before .before .before .args .store .now) (by (c .before .before .before .before)) (places (c .before .before .before .before)) (c .before .before .loop .k) (getD (c .before .before .before .before .args .list .now) (c .before .before .loop .k) 0) (below (c .before)) (read (c .before)) (s .pre .1), cell s, c .before .before .before .enough-for .ensures (toZ w64 (ofZ w64 (s .args .x))) (toZ w64 (ofZ w64 (s .args .y))))
+    let s = c .before .before .before in (tree-at (c .before .before .before .args .store .now) (by (c .before .before .before)) (places s) (c .before .before .loop .k) (getD (c .before .before .before .args .list .now) (c .before .before .loop .k) 0) (below (c .before)) (read (c .before)) (s .pre .1), s .pre .2)
 
 returns : tie.Need-returns Inv-loop μ-loop
 returns c =
-    let s = c .before .before .before .before .before .before in
-    let z : (ts : List Tree) → Starts (s .args .store .now) (places s) ts → exploreAll (by s) ts ≡ inside = last-inside (c .before .before .before .before .before .before .args .store .now) (by (c .before .before .before .before .before .before)) (places (c .before .before .before .before .before .before)) (c .before .before .before .before .loop .k) (getD (c .before .before .before .before .before .before .args .list .now) (c .before .before .before .before .loop .k) 0) (below (c .before .before .before)) (read (c .before .before .before)) (λ t h. is-inside (explore (by s) t) (c .before .ask .result) (c .before .ask .ensures t h) (c .if1 .taken)) in
-    (c .before .before .before .before .loop .inv .3, ((λ e. rw (toZ-ofZ (s .fits .x), toZ-ofZ (s .fits .y), toZ-ofZ (s .fits .s), toZ-ofZ (s .fits .r)) at z), λ e. clash (cc)))
+    let s = c .before .before .before .before .before in
+    let z : (ts : List Tree) → Starts (s .args .store .now) (places s) ts → exploreAll (by s) ts ≡ inside = last-inside (c .before .before .before .before .before .args .store .now) (by (c .before .before .before .before .before)) (places (c .before .before .before .before .before)) (c .before .before .before .before .loop .k) (getD (c .before .before .before .before .before .args .list .now) (c .before .before .before .before .loop .k) 0) (below (c .before .before .before)) (read (c .before .before .before)) (λ t h. is-inside (explore (by s) t) (c .before .ask .result) (c .before .ask .ensures t h) (c .if1 .taken)) in
+    (c .before .before .before .before .loop .inv .3, ((λ e. record { is-inside = z }), λ e. clash (cc)))
 
 add-k : tie.Need-add-k Inv-loop μ-loop
 add-k c =
-    omega (arith, c .before .before .before .before .before .before .pre .0, c .before .before .before .loop-test .taken)
+    omega (arith, c .before .before .before .before .before .pre .0, c .before .before .before .loop-test .taken)
 
 mul-keep : tie.Need-mul-keep Inv-loop μ-loop
 mul-keep c =
-    omega (arith, c .before .before .before .before .before .before .before .pre .0, c .before .before .before .before .loop-test .taken, c .before .before .before .before .before .loop .inv .1)
+    omega (arith, c .before .before .before .before .before .before .pre .0, c .before .before .before .before .loop-test .taken, c .before .before .before .before .before .loop .inv .1)
 
 element-write-keep : tie.Need-element-write-keep Inv-loop μ-loop
 element-write-keep c =
-    omega (arith, c .before .before .before .before .before .before .before .pre .0, c .before .before .before .before .loop-test .taken, c .before .before .before .before .before .loop .inv .1)
+    omega (arith, c .before .before .before .before .before .before .pre .0, c .before .before .before .before .loop-test .taken, c .before .before .before .before .before .loop .inv .1)
 
 add-kept : tie.Need-add-kept Inv-loop μ-loop
 add-kept c =
-    omega (arith, c .before .before .before .before .before .before .before .pre .0, c .before .before .before .before .loop-test .taken, c .before .before .before .before .before .loop .inv .1)
+    omega (arith, c .before .before .before .before .before .before .pre .0, c .before .before .before .before .loop-test .taken, c .before .before .before .before .before .loop .inv .1)
 
 loop-less : tie.Need-loop-less Inv-loop μ-loop
 loop-less c =
@@ -98,10 +88,10 @@ loop-less c =
 
 loop-again : tie.Need-loop-again Inv-loop μ-loop
 loop-again c =
-    let s = c .before .before .before .before .before .before .before in let l = c .before .before .before .before .before .loop in (
+    let s = c .before .before .before .before .before .before in let l = c .before .before .before .before .before .loop in (
       omega (arith, c .before .before .before .before .loop-test .taken),
       omega (arith, l .inv .1),
-      next-maybe (c .before .before .before .before .before .before .before .args .store .now) (by (c .before .before .before .before .before .before .before)) (places (c .before .before .before .before .before .before .before)) (c .before .before .before .before .before .loop .k) (getD (c .before .before .before .before .before .before .before .args .list .now) (c .before .before .before .before .before .loop .k) 0) (below (c .before .before .before .before)) (read (c .before .before .before .before)) (l .keep) (l .kept) (omega (arith, s .pre .0, c .before .before .before .before .loop-test .taken, l .inv .1, keep-long (c .before .before .before .before .before))) (λ t h. is-maybe (explore (by s) t) (c .before .before .ask .result) (c .before .before .ask .ensures t h) (c .if2 .taken)) (l .inv .2),
+      next-maybe (c .before .before .before .before .before .before .args .store .now) (by (c .before .before .before .before .before .before)) (places (c .before .before .before .before .before .before)) (c .before .before .before .before .before .loop .k) (getD (c .before .before .before .before .before .before .args .list .now) (c .before .before .before .before .before .loop .k) 0) (below (c .before .before .before .before)) (read (c .before .before .before .before)) (l .keep) (l .kept) (omega (arith, s .pre .0, c .before .before .before .before .loop-test .taken, l .inv .1, keep-long (c .before .before .before .before .before))) (λ t h. is-maybe (explore (by s) t) (c .before .before .ask .result) (c .before .before .ask .ensures t h) (c .if2 .taken)) (l .inv .2),
       length-set (l .keep) (l .kept) _ ∙ l .inv .3,
     )
 
@@ -111,18 +101,18 @@ loop-less-2 c =
 
 loop-again-2 : tie.Need-loop-again-2 Inv-loop μ-loop
 loop-again-2 c =
-    let s = c .before .before .before .before .before .before .before in let l = c .before .before .before .before .before .loop in (
+    let s = c .before .before .before .before .before .before in let l = c .before .before .before .before .before .loop in (
       omega (arith, c .before .before .before .before .loop-test .taken),
       omega (arith, l .inv .1),
-      next-away (c .before .before .before .before .before .before .before .args .store .now) (by (c .before .before .before .before .before .before .before)) (places (c .before .before .before .before .before .before .before)) (c .before .before .before .before .before .loop .k) (getD (c .before .before .before .before .before .before .before .args .list .now) (c .before .before .before .before .before .loop .k) 0) (below (c .before .before .before .before)) (read (c .before .before .before .before)) (l .keep) (l .kept) (λ t h. is-away (explore (by s) t) (c .before .before .ask .result) (c .before .before .ask .ensures t h) (c .before .if1 .left) (c .if2 .left)) (l .inv .2),
+      next-away (c .before .before .before .before .before .before .args .store .now) (by (c .before .before .before .before .before .before)) (places (c .before .before .before .before .before .before)) (c .before .before .before .before .before .loop .k) (getD (c .before .before .before .before .before .before .args .list .now) (c .before .before .before .before .before .loop .k) 0) (below (c .before .before .before .before)) (read (c .before .before .before .before)) (l .keep) (l .kept) (λ t h. is-away (explore (by s) t) (c .before .before .ask .result) (c .before .before .ask .ensures t h) (c .before .if1 .left) (c .if2 .left)) (l .inv .2),
       l .inv .3,
     )
 
 returns-2 : tie.Need-returns-2 Inv-loop μ-loop
 returns-2 c =
-    let s = c .before .before .before in let l = c .before .loop in
+    let s = c .before .before in let l = c .before .loop in
     let z : (ts : List Tree) → Starts (s .args .store .now) (places s) ts → (exploreAll (by s) ts ≡ inside → ⊥) × Starts (s .args .store .now) (take (l .kept) (l .keep)) (opened (by s) ts) = finish (s .args .store .now) (by s) (places s) (l .keep) (l .kept) (l .k) (omega (arith, places-long s, l .inv .0)) (l .inv .2) in
-    (l .inv .3, ((λ e. clash (cc)), λ e. (omega (arith, l .inv .0, l .inv .1), rw (toZ-ofZ (s .fits .x), toZ-ofZ (s .fits .y), toZ-ofZ (s .fits .s), toZ-ofZ (s .fits .r)) at z)))
+    (l .inv .3, ((λ e. clash (cc)), λ e. record { fewer = omega (arith, l .inv .0, l .inv .1); not-inside = λ ts h. z ts h .0; still = λ ts h. z ts h .1 }))
 
 pub explore-open-spec : {M : Type 1} → statement M
 explore-open-spec =
@@ -130,7 +120,6 @@ explore-open-spec =
     (tie.spec
     Inv-loop
     μ-loop
-    enough-for-requires
     loop-holds
     mul-a
     element-copy-out-a
