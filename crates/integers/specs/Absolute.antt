@@ -4,14 +4,11 @@ use mathlib.Core.Logic.{_⊎_, inl, inr}
 use Prim.Native.Nat.{zero, suc}
 use lib.IntN.{ℤ, pos, negsuc, negℤ, natAbs, _+ℤ_, _*ℤ_}
 use lib.Signed.{leZ-yes}
+unfoldable pub use Rattle.basics.specs.Numbers.{absℤ}
 use Rattle.integers.specs.RingSolver.{name₂, name₄, reify}
 use Rattle.integers.specs.Order.{_≼_, num, ≼-refl}
 use Rattle.integers.specs.Omega.{zarith}
 use Rattle.integers.specs.Inequalities.{≼-+}
-
--- It is shut, so that a square of it stays a product of two unknowns: say `unfolding absℤ` where it has to compute.
-unfoldable pub absℤ : ℤ → ℤ
-absℤ z = pos (natAbs z)
 
 pub abs-size : (z : ℤ) → natAbs (absℤ z) ≡ natAbs z
 unfolding absℤ

@@ -1,14 +1,12 @@
 -- Laws of the order of ℤ: those that `omega zarith` proves of itself, and those that need a product, a case or an absolute value. Assumes nothing.
-use mathlib.Core.Path.{sym, subst}
 use mathlib.Core.Bool.{Bool, true, false, not}
 use mathlib.Core.Logic.{_⊎_, inl, inr, ⊎-elim}
-use Prim.Native.Nat.{ℕ, zero, suc, _*_, _<_}
-use native.Mathlib.Omega.{arith}
 use lib.Dec.{T}
 use lib.IntN.{ℤ, pos, _+ℤ_, _*ℤ_}
 use lib.Signed.{ltZ, ltZ-yes, ltZ-no, clashℤ}
+pub use Rattle.basics.specs.Orders.{_⊠⁺_}
 use Rattle.integers.specs.RingSolver.{name₂, name₃, name₄, reify, close, ok}
-use Rattle.integers.specs.Order.{_≼_, _≺_, num⁺, nat⁺, _⊠_, gap, gap⁺, lt-by}
+use Rattle.integers.specs.Order.{_≼_, _≺_, _⊠_, gap, gap⁺, lt-by}
 use Rattle.integers.specs.Omega.{zarith}
 
 -- facts, and what follows from them: `from (h & k) (name₂ x y λ σ p q. simp (p, q, reify, σ) (omega zarith))`
@@ -47,21 +45,10 @@ split≼ a b = go (ltZ b a) (λ t. inr (ltZ-yes t)) (λ t. inl (ltZ-no t))
 pub by-contra : {a b : ℤ} → (b ≺ a → ⊥) → a ≼ b
 by-contra {a} {b} f = ⊎-elim (λ h. h) (λ h. absurd (f h)) (split≼ a b)
 
--- ---- sums and products of what is positive
+-- ---- sums and products of what is positive; `_⊠⁺_` is the law of a product
 infixl 6 _⊞⁺_
 pub _⊞⁺_ : {a b : ℤ} → pos 0 ≺ a → pos 0 ≼ b → pos 0 ≺ a +ℤ b
 _⊞⁺_ {a} {b} = name₂ a b λ σ p q. simp (p, q, reify, σ) (omega zarith)
-
-infixl 7 _⊠⁺_
-pub _⊠⁺_ : {a b : ℤ} → pos 0 ≺ a → pos 0 ≺ b → pos 0 ≺ a *ℤ b
-_⊠⁺_ {a} {b} h k =
-    let m = nat⁺ a h in
-    let n = nat⁺ b k in
-    subst (λ t. pos 0 ≺ t *ℤ b) (sym (m .1)) (subst (λ t. pos 0 ≺ pos (suc (m .0)) *ℤ t) (sym (n .1)) (go (suc (m .0) * suc (n .0)) (omega arith)))
-  where
-    go : (n : ℕ) → 0 < n → pos 0 ≺ pos n
-    go zero h = absurd (omega arith)
-    go (suc n) h = num⁺ n
 
 pub ≺-*l : {a b c : ℤ} → pos 0 ≺ c → a ≺ b → c *ℤ a ≺ c *ℤ b
 ≺-*l {a} {b} {c} h k = lt-by (h ⊠⁺ gap⁺ k) (name₃ a b c λ σ p q r. simp (p, q, r, reify) (close σ _ _ ok))

@@ -7,16 +7,9 @@ use native.Mathlib.Omega.{arith}
 use lib.Dec.{T, leb, ltb, leb→le, le→leb, ltb→lt, lt→ltb}
 use lib.Arith.{le→nltb}
 use lib.IntN.{ℤ, pos, negsuc, subℕ, _+ℤ_, _-ℤ_, _*ℤ_}
-use lib.Signed.{_≤ℤ_, _<ℤ_, leZ, ltZ, leZ-yes, ltZ-yes, ≤ℤ-refl}
+use lib.Signed.{leZ, ltZ, leZ-yes, ltZ-yes, ≤ℤ-refl}
+pub use Rattle.basics.specs.Orders.{_≼_, _≺_, num⁺}
 use Rattle.integers.specs.RingSolver.{name₂, reify, close, ok}
-
--- `lib.Signed` gives its order a fixity above the sum's: `a ≤ℤ b +ℤ c` is read `(a ≤ℤ b) +ℤ c`. The same order, with the fixity of `≡`
-infix 4 _≼_ _≺_
-abbrev pub _≼_ : ℤ → ℤ → Type 0
-a ≼ b = a ≤ℤ b
-
-abbrev pub _≺_ : ℤ → ℤ → Type 0
-a ≺ b = a <ℤ b
 
 -- ---- a ≤ b where b is a plus a natural number, and only there
 cond-yes : (c : Bool) (x y : ℤ) → T c → cond c x y ≡ x
@@ -69,9 +62,6 @@ lt-up (negsuc a) n = go (ltb (suc n) (suc a)) (λ t. let h = ltb→lt (suc n) (s
 -- ---- what is not negative
 pub num : (n : ℕ) → pos 0 ≼ pos n
 num n = leZ-yes (le→leb 0 n (omega arith))
-
-pub num⁺ : (n : ℕ) → pos 0 ≺ pos (suc n)
-num⁺ n = ltZ-yes (lt→ltb 0 (suc n) (omega arith))
 
 -- such a number is a natural number
 pub nat : (z : ℤ) → pos 0 ≼ z → (n : ℕ) × (z ≡ pos n)

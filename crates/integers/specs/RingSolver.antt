@@ -6,14 +6,8 @@ use mathlib.Core.List.{List, [], _∷_}
 use Prim.Native.Nat.{ℕ, zero, suc, _+_, _*_}
 use native.Mathlib.Omega.{arith}
 use lib.IntN.{ℤ, pos, negsuc, negℤ, one, _+ℤ_, _-ℤ_, _*ℤ_, +ℤ-assoc, +ℤ-comm, +ℤ-idl, +ℤ-idr, negℤ-+ℤ, *ℤ-comm, *ℤ-one, zero-*ℤ, *ℤ-zero, -ℤ-+ℤ-cancel}
+pub use Rattle.basics.specs.Numbers.{_^ℤ_}
 use Rattle.integers.specs.RingLaws.{+ℤ-swap, *ℤ-+ℤ, +ℤ-*ℤ, *ℤ-neg, *ℤ-assoc, *ℤ-left-comm}
-
--- x², x³ are x *ℤ x, x *ℤ x *ℤ x
-infixl 8 _^ℤ_
-abbrev pub _^ℤ_ : ℤ → ℕ → ℤ
-x ^ℤ zero = pos 1
-x ^ℤ suc zero = x
-x ^ℤ suc (suc n) = x ^ℤ suc n *ℤ x
 
 -- ---- polynomials. `hor p q` is p + x q, where x is the environment's first variable, and p has only the later ones
 pub data Pol : Type 0 where

@@ -4,6 +4,7 @@ use native.Mathlib.Nat.{mul-div-le, div-add-mod, mod-lt}
 use native.Mathlib.Omega.{arith}
 use lib.IntN.{ℤ, pos, negsuc, negℤ, _+ℤ_, _-ℤ_, _*ℤ_}
 use lib.Signed.{shrZ}
+pub use Rattle.basics.specs.Numbers.{nearest}
 use Rattle.integers.specs.RingSolver.{name₂, name₃, reify}
 use Rattle.integers.specs.Order.{_≼_, _≺_, pos-≼, pos-≺}
 use Rattle.integers.specs.Omega.{zarith}
@@ -31,9 +32,6 @@ near : (q z m : ℤ) → pos 2 *ℤ m *ℤ q ≼ pos 2 *ℤ z +ℤ m → pos 2 *
 near q z m h k = abs-≼ _ _
     (from (h & k) (name₃ q z m λ σ p r s. simp (p, r, s, reify, σ) (omega zarith)))
     (from (h & k) (name₃ q z m λ σ p r s. simp (p, r, s, reify, σ) (omega zarith)))
-
-abbrev pub nearest : ℤ → ℕ → ℤ
-nearest z m = shrZ (pos 2 *ℤ z +ℤ pos m) (2 * m)
 
 pub nearest-near : (z : ℤ) (m : ℕ) → 0 < m → absℤ (pos 2 *ℤ (nearest z m *ℤ pos m -ℤ z)) ≼ pos m
 nearest-near z m h =

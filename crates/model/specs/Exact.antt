@@ -5,9 +5,8 @@ use mathlib.Core.List.{List, [], _∷_}
 use mathlib.Core.Logic.{_⊎_, _↔_}
 use Prim.Native.Nat.{ℕ, _+_, _*_, _^_}
 use lib.IntN.{ℤ, pos, _+ℤ_, _-ℤ_, _*ℤ_}
-use Rattle.integers.specs.RingSolver.{_^ℤ_}
-use Rattle.integers.specs.Order.{num⁺}
-use Rattle.integers.specs.Inequalities.{_⊠⁺_}
+use Rattle.basics.specs.Orders.{num⁺, _⊠⁺_}
+use Rattle.basics.specs.Numbers.{_^ℤ_}
 use Rattle.model.specs.Jobs.{Cubic, Edge}
 use Rattle.model.specs.Fractions.{Frac, _≤ᶠ_, _<ᶠ_, whole, Point, Closer, Farther, AtMost, AtLeast}
 use Rattle.model.specs.Plates.{Verdict, clear, within, doubtful, mixed}

@@ -1,7 +1,6 @@
 -- Document 01, "The words of demand 3": fractions, and points whose coordinates are fractions. Assumes nothing.
 use lib.IntN.{ℤ, pos, _+ℤ_, _-ℤ_, _*ℤ_}
-use Rattle.integers.specs.Order.{_≼_, _≺_, num⁺}
-use Rattle.integers.specs.Inequalities.{_⊠⁺_}
+use Rattle.basics.specs.Orders.{_≼_, _≺_, num⁺, _⊠⁺_}
 
 -- a whole number over a whole number from 1 up
 pub record Frac : Type 0 where

@@ -1,4 +1,6 @@
--- Document 01 as definitions, in its order and its terms. This is what a reader has to believe; all else in the repository is proved of it.
+-- Document 01 as definitions, in its order and its terms. This, and `basics` before it, is what a reader has to believe; all else in the
+-- repository is proved of it. The words that both are written in are the kit's: ℕ, ℤ, their operations and tests (`Prim.Native.Nat`,
+-- `lib.IntN`, `lib.Signed`, `lib.Dec`), lists (`mathlib.Core.List`, `lib.ListN`), equality and logic (`mathlib.Core`), a string's bytes.
 -- Each file is one concern, with the section it stands for named at its head. Nothing here is proved beyond what a definition needs,
 -- apart from the last file, in which document 01's worked figures hold of the definitions.
 

@@ -4,7 +4,7 @@ use mathlib.Core.List.{List}
 use Prim.Native.Nat.{ℕ, zero, suc, _-_, _*_, _^_}
 use lib.Dec.{ltb}
 use lib.IntN.{ℤ, pos, _+ℤ_, _*ℤ_}
-use Rattle.sequences.specs.RowMajor.{rowMajor}
+use Rattle.basics.specs.Lists.{rowMajor}
 use Rattle.model.specs.declared.Job.{Job}
 use Rattle.model.specs.Jobs.{plateLog, cellLog}
 use Rattle.model.specs.Strips.{Strip}

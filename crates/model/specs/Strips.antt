@@ -3,9 +3,7 @@ use mathlib.Core.Bool.{Bool, _&&_}
 use Prim.Native.Nat.{ℕ, _+_, _*_, _^_}
 use lib.IntN.{ℤ, pos, _+ℤ_, _-ℤ_, _*ℤ_}
 use lib.Signed.{leZ}
-use Rattle.integers.specs.RingSolver.{_^ℤ_}
-use Rattle.integers.specs.Absolute.{absℤ}
-use Rattle.integers.specs.Rounding.{nearest}
+use Rattle.basics.specs.Numbers.{_^ℤ_, absℤ, nearest}
 use Rattle.model.specs.Jobs.{Cubic, Edge}
 
 -- ---- the power form: a coordinate is c0 + c1·t + c2·t² + c3·t³

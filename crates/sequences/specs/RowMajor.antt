@@ -1,11 +1,12 @@
 -- A rectangle of h rows and w columns as one list, row after row: what stands in column i and row j has place j · w + i. Assumes nothing.
 use mathlib.Core.Path.{_≡_, sym, ap, _∙_}
-use mathlib.Core.List.{List, [], _++_}
+use mathlib.Core.List.{List, _++_}
 use Prim.Native.Nat.{ℕ, zero, suc, _+_, _*_, _/_, _%_, _≤_, _<_}
 use native.Mathlib.Nat.{div-add-mod', div-lt-iff-lt-mul, mod-lt}
 use native.Mathlib.Omega.{arith}
 use lib.ListN.{length, getD, take, length-append, List·getD-append}
 use lib.Seq.{getD-append-add, getD-take, ext-getD, length-take-le}
+unfoldable pub use Rattle.basics.specs.Lists.{rowMajor}
 use Rattle.sequences.specs.Tables.{table, length-table, getD-table}
 
 -- each place of the rectangle is of one column and one row
@@ -14,10 +15,6 @@ place zero h k l = absurd (omega arith)
 place (suc w) h k l = (mod-lt k (omega arith), div-lt-iff-lt-mul {k = suc w} {x = k} {y = h} (omega arith) .1 l, div-add-mod' k (suc w))
 
 module _ {A : Type 0} where
-  unfoldable pub rowMajor : ℕ → ℕ → (ℕ → ℕ → A) → List A
-  rowMajor w zero f = []
-  rowMajor w (suc h) f = table w (λ i. f i 0) ++ rowMajor w h (λ i j. f i (suc j))
-
   pub length-rowMajor : (w h : ℕ) (f : ℕ → ℕ → A) → length (rowMajor w h f) ≡ h * w
   unfolding rowMajor
   length-rowMajor w zero f = omega arith

@@ -1,16 +1,11 @@
 -- A list given by its elements' places. Assumes nothing.
 use mathlib.Core.Path.{_≡_, refl, ap}
-use mathlib.Core.List.{List, [], _∷_}
 use Prim.Native.Nat.{ℕ, zero, suc, _<_}
 use native.Mathlib.Omega.{arith}
 use lib.ListN.{length, getD}
+unfoldable pub use Rattle.basics.specs.Lists.{table}
 
 module _ {A : Type 0} where
-  -- f 0, f 1, up to f (n − 1)
-  unfoldable pub table : ℕ → (ℕ → A) → List A
-  table zero f = []
-  table (suc n) f = f 0 ∷ table n (λ k. f (suc k))
-
   pub length-table : (n : ℕ) (f : ℕ → A) → length (table n f) ≡ n
   unfolding table
   length-table zero f = refl

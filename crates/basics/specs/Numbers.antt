@@ -1,0 +1,19 @@
+-- Whole numbers: size, powers, quotients to the nearest. Assumes nothing.
+use Prim.Native.Nat.{ℕ, zero, suc, _*_}
+use lib.IntN.{ℤ, pos, natAbs, _+ℤ_, _*ℤ_}
+use lib.Signed.{shrZ}
+
+-- the number without its sign. It is shut, so that a square of it stays a product of two unknowns: say `unfolding absℤ` where it has to compute
+unfoldable pub absℤ : ℤ → ℤ
+absℤ z = pos (natAbs z)
+
+-- x multiplied by itself n times, 1 for n = 0; x² and x³ are x *ℤ x and x *ℤ x *ℤ x
+infixl 8 _^ℤ_
+abbrev pub _^ℤ_ : ℤ → ℕ → ℤ
+x ^ℤ zero = pos 1
+x ^ℤ suc zero = x
+x ^ℤ suc (suc n) = x ^ℤ suc n *ℤ x
+
+-- z over m, for m from 1 up, to the nearest whole number, a half toward plus infinity: the kit's `shrZ`, which rounds down, of z/m + 1/2
+abbrev pub nearest : ℤ → ℕ → ℤ
+nearest z m = shrZ (pos 2 *ℤ z +ℤ pos m) (2 * m)
