@@ -4,7 +4,7 @@ use mathlib.Core.Path.{_≡_}
 use mathlib.Core.Bool.{false}
 use mathlib.Core.Logic.{_⊎_}
 use mathlib.Core.List.{List, _++_}
-use Prim.Native.Nat.{ℕ, _+_, _*_, _<_}
+use Prim.Native.Nat.{ℕ, _+_, _*_, _≤_, _<_}
 use lib.IntN.{ℤ, pos}
 use lib.ListN.{length, getD, take}
 use Rattle.basics.specs.Orders.{num⁺}
@@ -14,12 +14,13 @@ use Rattle.model.specs.Jobs.{outline, cellLog, judge}
 use Rattle.model.specs.Bytes.{bytes}
 use Rattle.model.specs.Sheets.{sheetOf}
 use Rattle.model.specs.Trees.{anyLong}
-use Rattle.model.specs.Store.{forest}
+use Rattle.model.specs.Store.{forest, nodesOf}
 use Rattle.model.specs.Fractions.{Frac, whole, Point, dist², _≤ᶠ_}
-use Rattle.model.specs.Plates.{Verdict, letter, columns, mapOf}
+use Rattle.model.specs.Plates.{Verdict, letter, columns, cellsOf, mapOf}
 use Rattle.model.specs.Exact.{Points, Outline, CellPoint, Exact, Demand3}
 use Rattle.model.specs.Distance.{lo, hi}
-use Rattle.model.specs.Entries.{read, write, writeLeaves}
+use Rattle.model.specs.Entries.{read, writeRefusal, write, writeLeaves, mapRefusal, pointRefusal}
+use Rattle.model.specs.Printing.{printed}
 
 -- a job value of the code: its outline has 64 places of eight numbers
 abbrev pub Whole : Job → Type 0
@@ -73,3 +74,29 @@ pub record Bounds (j : Job) (Q : Point) (lo hi : ℤ) : Type 0 where
 
 abbrev pub PointBounds : Type 0
 PointBounds = (j : Job) → judge j ≡ 0 → (x y : ℤ) → Bounds j (wholePoint x y) (lo (forest j) x y) (hi (forest j) x y)
+
+-- ---- memory that is enough for every job, refused ones too
+-- 5,645 bytes for a sheet: no write is refused 7; and a sheet that has as many
+abbrev pub SheetRoom : Type 0
+SheetRoom = (j : Job) (out : List ℕ) → Whole j → 5645 ≤ length out → writeRefusal j out ≡ 7 → ⊥
+
+abbrev pub SheetFills : Type 0
+SheetFills = (j : Job) × Whole j × (judge j ≡ 0) × (length (sheetOf j) ≡ 5645)
+
+-- 65,536 bytes for a map: no map is refused 7; and a job that has as many cells
+abbrev pub MapRoom : Type 0
+MapRoom = (j : Job) (store : List ℤ) (cells : List ℕ) → 65536 ≤ length cells → mapRefusal j store cells ≡ 7 → ⊥
+
+abbrev pub MapFills : Type 0
+MapFills = (j : Job) × Whole j × (judge j ≡ 0) × (cellsOf j ≡ 65536)
+
+-- 917,056 numbers for a store: no map and no point is refused 6; and a job that has as many, 7 for each of 2,047 nodes of 64 trees
+abbrev pub StoreRoom : Type 0
+StoreRoom = (j : Job) (store : List ℤ) → 917056 ≤ length store → ((cells : List ℕ) → mapRefusal j store cells ≡ 6 → ⊥) × ((x y : ℤ) → pointRefusal j x y store ≡ 6 → ⊥)
+
+abbrev pub StoreFills : Type 0
+StoreFills = (j : Job) × Whole j × (judge j ≡ 0) × (anyLong (forest j) ≡ false) × (nodesOf j ≡ 131008)
+
+-- so the program, which lends 65,536 bytes, prints no refusal 7
+abbrev pub NeverSpace : Type 0
+NeverSpace = (input : List ℕ) → printed input ≡ bytes "(refused 7)\n" → ⊥

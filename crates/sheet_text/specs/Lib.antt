@@ -8,4 +8,5 @@ pub mod Optional
 pub mod Jobs
 pub mod Places
 pub mod Code
+pub mod Longest
 pub mod RoundTrips

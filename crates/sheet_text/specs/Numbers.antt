@@ -1,5 +1,5 @@
 -- A number's text: what was written is read (`number-text`), and what was read is what is written (`text-number`). Assumes nothing.
-use mathlib.Core.Path.{_≡_, refl, sym, ap, _∙_}
+use mathlib.Core.Path.{_≡_, refl, sym, ap, _∙_, subst}
 use mathlib.Core.Bool.{Bool, true, false, not, _&&_}
 use mathlib.Core.List.{List, [], _∷_, _++_, append-assoc}
 use Prim.Native.Nat.{ℕ, zero, suc, _+_, _*_, _-_, _/_, _%_, _^_, _≤_, _<_}
@@ -234,6 +234,11 @@ decimal-long zero n = unfold decimal in omega arith
 decimal-long (suc k) n = cases-ten n
     (λ h. rw (decimal-one k n h) (omega arith))
     (λ h. rw (decimal-more k n h) (simp length-append (omega (arith, decimal-long k (n / 10)))))
+
+-- of a number below 10^(g + 1), at most g + 1 digits
+pub text-short : (g n : ℕ) → g ≤ 6 → n < 10 ^ suc g → length (text (pos n)) ≤ suc g
+unfolding text
+text-short g n h l = subst (λ (u : List ℕ). length u ≤ suc g) (wider g 6 n l h) (decimal-long (suc g) n)
 
 pub text-long : (z : ℤ) → length (text z) ≤ 8
 unfolding text

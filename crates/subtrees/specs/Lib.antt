@@ -7,3 +7,4 @@ pub mod Subtrees
 pub mod Halving
 pub mod Counts
 pub mod Sizes
+pub mod Full

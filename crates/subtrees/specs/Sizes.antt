@@ -1,16 +1,25 @@
--- How many nodes a tree and a job's trees can have: 2,047 an edge at most. Assumes nothing.
+-- How many nodes a tree and a job's trees can have: 2,047 an edge at most, so that 917,056 numbers are a store for every job. Assumes nothing.
 use mathlib.Core.Path.{_≡_, refl, ap, subst}
-use mathlib.Core.List.{List}
+use mathlib.Core.Bool.{false, not}
+use mathlib.Core.List.{List, [], _++_}
 use Prim.Native.Nat.{ℕ, zero, suc, _+_, _*_, _≤_, _<_}
 use native.Mathlib.Omega.{arith}
+use borrow.Author.Tests.{leb-false}
+use lib.Dec.{leb}
 use lib.IntN.{ℤ, pos, _*ℤ_}
 use lib.ListN.{length}
 use Rattle.model.specs.declared.Job.{Job}
-use Rattle.model.specs.Jobs.{Edge, edgeAt, edgesFrom, outline}
-use Rattle.model.specs.Trees.{Tree, tree, trees}
-use Rattle.model.specs.Store.{size, sizes, forest, nodesOf}
+use Rattle.model.specs.Refusals as refused
+use Rattle.model.specs.Refusals.{Checks, check}
+use Rattle.model.specs.Jobs.{own, judge, Edge, edgeAt, edgesFrom, outline}
+use Rattle.model.specs.Trees.{Tree, tree, trees, anyLong}
+use Rattle.model.specs.Store.{width, size, sizes, forest, nodesOf, storeOf, begins}
+use Rattle.model.specs.Plates.{cellsOf}
+use Rattle.model.specs.Entries.{mapRefusal, spotCheck, pointRefusal}
+use Rattle.model.specs.Promises.{StoreRoom}
+use Rattle.ranges.specs.Refusals.{all-pass, passed-all, each-passed, tells}
 use Rattle.ranges.specs.PowerForm.{formOf}
-use Rattle.ranges.specs.Jobs.{JobSized}
+use Rattle.ranges.specs.Jobs.{JobSized, judge-sized}
 use Rattle.subtrees.specs.Preorder.{size-pos}
 use Rattle.subtrees.specs.Subtrees.{tree-is}
 use Rattle.subtrees.specs.Halving.{few, whole-edge}
@@ -18,7 +27,7 @@ use Rattle.subtrees.specs.Halving.{few, whole-edge}
 pub few-nodes : (g : ℤ) (e : Edge) → size (tree g e) < 2048
 few-nodes g e = subst (λ (t : Tree). size t < 2048) (tree-is g e) (few (pos 16 *ℤ g) (formOf (e .x)) (formOf (e .y)) 10 2 1 whole-edge)
 
-pub few-trees : (g : ℤ) (l : List ℤ) (k e : ℕ) → sizes (trees g (edgesFrom l k e)) ≤ 2048 * k
+pub few-trees : (g : ℤ) (l : List ℤ) (k e : ℕ) → sizes (trees g (edgesFrom l k e)) ≤ 2047 * k
 unfolding edgesFrom
 few-trees g l zero e = omega arith
 few-trees g l (suc k) e = omega (arith, few-nodes g (edgeAt l e), few-trees g l k (e + 1))
@@ -46,6 +55,29 @@ pub forest-some : (j : Job) → JobSized j → 1 ≤ nodesOf j
 unfolding forest outline
 forest-some j h = some-node (j .grain) (j .places) (j .count) 0 (h .some-edge)
 
-pub forest-few : (j : Job) → JobSized j → nodesOf j ≤ 131072
+pub forest-few : (j : Job) → JobSized j → nodesOf j ≤ 131008
 unfolding forest outline
 forest-few j h = omega (arith, few-trees (j .grain) (j .places) (j .count) 0, h .few-edges)
+
+-- ---- a store for every job
+enough : (j : Job) (store : List ℤ) → judge j ≡ 0 → 917056 ≤ length store → leb (width * nodesOf j) (length store) ≡ false → ⊥
+enough j store e h f = absurd (omega (arith, leb-false (width * nodesOf j) (length store) f, forest-few j (judge-sized j e)))
+
+-- the check before that of the store
+abbrev long-check : Job → Checks
+long-check j = check refused.long (not (anyLong (forest j)))
+
+pub store-room : StoreRoom
+unfolding mapRefusal pointRefusal judge
+store-room j store h = (map, point)
+  where
+    map : (cells : List ℕ) → mapRefusal j store cells ≡ 6 → ⊥
+    map cells e =
+        let t = tells 5 (own j [] ++ long-check j) refused.store (leb (width * nodesOf j) (length store)) (check refused.space (leb (cellsOf j) (length cells))) refl e in
+        enough j store (each-passed (own j []) (long-check j) (t .0) .0) h (t .1)
+
+    point : (x y : ℤ) → pointRefusal j x y store ≡ 6 → ⊥
+    point x y e =
+        let t = tells 5 (own j (spotCheck x y) ++ long-check j) refused.store (leb (width * nodesOf j) (length store)) (check refused.stranger (begins store (storeOf j))) refl e in
+        let p = passed-all (own j (spotCheck x y) ++ long-check j) (t .0) in
+        enough j store (all-pass (own j []) (p .0, (p .1 .0, (p .1 .1 .1 .0, tt)))) h (t .1)

@@ -21,7 +21,8 @@ use Rattle.sheet_text.specs.Numbers.{Small}
 use Rattle.sheet_text.specs.Forms.{AllSmall, nil-small, cons-small}
 use Rattle.ranges.specs.Refusals.{when-refused, when-passed, first-fails}
 use Rattle.sheet_text.specs.Jobs.{legal, placed-small}
-use Rattle.sheet_text.specs.Code.{headOf, headText, edgesText, codeText, sheet-as-code, room}
+use Rattle.sheet_text.specs.Code.{headOf, headText, edgesText, codeText, sheet-as-code}
+use Rattle.sheet_text.specs.Longest.{room, head-most, grain-most}
 use Rattle.printing.specs.Puts.{Put}
 use Rattle.printing.proofs.Numbers.{put-then, small-fits, small-again}
 
@@ -44,17 +45,30 @@ module _ (j : Job) (ok : judge j ≡ 0) where
   pub places-there : length (j .places) ≡ 512 → 8 * j .count ≤ length (j .places)
   places-there n = omega (arith, legal j ok .few)
 
-  -- the room that is left after the head, the optional line and the edges
-  module _ (a b c : List ℕ) (i k : ℕ) (space : room ≤ length a) (hi : i ≤ 0 + 73) (hk : k ≤ i + 17) (lb : length b ≡ length a) (lc : length c ≡ length b) where
-    pub edges-space : k + 87 * j .count ≤ length c
-    edges-space = omega (arith, legal j ok .few)
+  grain-back : toZ w32 (ofZ w32 (j .grain)) ≡ j .grain
+  grain-back = toZ-ofZ w32 (j .grain) (small-fits (j .grain) (legal j ok .grain-small))
 
-    module _ (d : List ℕ) (m : ℕ) (hm : m ≤ k + 87 * j .count) (ld : length d ≡ length c) where
-      pub end-space : m + 2 ≤ length d
-      end-space = omega (arith, legal j ok .few)
+  -- where the head and the optional line end at the latest, and the room that is left after them and after the edges
+  abbrev optional-text : List ℕ
+  optional-text = writeLines (grainForm ∷ []) (stated defaultGrain (toZ w32 (ofZ w32 (j .grain))))
 
-  pub end-by : (i k m n : ℕ) → i ≤ 0 + 73 → k ≤ i + 17 → m ≤ k + 87 * j .count → n ≤ m + 2 → n ≤ room
-  end-by i k m n hi hk hm hn = omega (arith, legal j ok .few)
+  module _ (a b c : List ℕ) (i k : ℕ) (hs : List ℤ) (e : hs ≡ headOf j) (p : Put a b 0 i (headText hs)) (q : Put b c i k optional-text) where
+    pub lines-by : k ≤ 75
+    lines-by =
+        let h : length (headText hs) ≤ 60 = rw e (head-most j ok) in
+        let g : length optional-text ≤ 15 = rw grain-back (grain-most j ok) in
+        omega (arith, p .next-is, q .next-is)
+
+    module _ (space : room ≤ length a) (lb : length b ≡ length a) (lc : length c ≡ length b) where
+      pub edges-space : k + 87 * j .count ≤ length c
+      edges-space = omega (arith, lines-by, legal j ok .few)
+
+      module _ (d : List ℕ) (m : ℕ) (hm : m ≤ k + 87 * j .count) (ld : length d ≡ length c) where
+        pub end-space : m + 2 ≤ length d
+        end-space = omega (arith, lines-by, legal j ok .few)
+
+    pub end-by : (m n : ℕ) → m ≤ k + 87 * j .count → n ≤ m + 2 → n ≤ room
+    end-by m n hm hn = omega (arith, lines-by, legal j ok .few)
 
   -- the last line has no numbers
   end-line : (hs : List ℤ) → writeForm endForm hs ≡ writeForm endForm []
@@ -65,7 +79,7 @@ module _ (j : Job) (ok : judge j ≡ 0) where
   unfolding codeText
   sheet-put a b c d f i k m n hs p q r s e x =
       subst (Put a f 0 n)
-      (ap₂ (λ y z. headText y ++ (writeLines (grainForm ∷ []) (stated defaultGrain z) ++ (edgesText (j .count) (j .places) ++ writeForm endForm []))) e (toZ-ofZ w32 (j .grain) (small-fits (j .grain) (legal j ok .grain-small)))
+      (ap₂ (λ y z. headText y ++ (writeLines (grainForm ∷ []) (stated defaultGrain z) ++ (edgesText (j .count) (j .places) ++ writeForm endForm []))) e grain-back
       ∙ sym (sheet-as-code j (places-there x)))
       (put-then a b f 0 i n (headText hs) _ p
       (put-then b c f i k n (writeLines (grainForm ∷ []) (stated defaultGrain (toZ w32 (ofZ w32 (j .grain))))) _ q

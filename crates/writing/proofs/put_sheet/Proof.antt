@@ -30,7 +30,7 @@ slice-aggregate-put-edges : tie.Need-slice-aggregate-put-edges
 slice-aggregate-put-edges c = search needs
 
 put-edges-requires : tie.Need-put-edges-requires
-unfolding weight
+unfolding grainForm
 put-edges-requires c κs = (search (needs, sheets.edges-space), (search (needs, sheets.places-there), search (needs, sheets.places-ready)))
 
 slice-aggregate-put-form : tie.Need-slice-aggregate-put-form
@@ -40,7 +40,7 @@ slice-aggregate-put-form-2 : tie.Need-slice-aggregate-put-form-2
 slice-aggregate-put-form-2 c = search needs
 
 put-form-requires : tie.Need-put-form-requires
-unfolding marks weight
+unfolding grainForm marks weight
 put-form-requires c κs = (search (needs, sheets.end-space), (omega arith, search (needs, sheets.head-ready)))
 
 same-length : tie.Need-same-length
@@ -59,8 +59,9 @@ returns c =
       sheets.sheet-put (s .args .job) (s .pre .0) (now (s .args .out)) (h .put-head .last .0) (o .put-optional .last .0) (e .put-edges .last .0) (f .put-form .last .0)
           (h .put-head .result) (o .put-optional .result) (e .put-edges .result) (f .put-form .result) (d .head-of .result)
           (h .put-head .ensures .0) (o .put-optional .ensures .0) (e .put-edges .ensures .0) (f .put-form .ensures .0) (d .head-of .ensures) x,
-      sheets.end-by (s .args .job) (s .pre .0) (h .put-head .result) (o .put-optional .result) (e .put-edges .result) (f .put-form .result)
-          (h .put-head .ensures .1) (o .put-optional .ensures .1) (e .put-edges .ensures .1) (f .put-form .ensures .1),
+      sheets.end-by (s .args .job) (s .pre .0) (now (s .args .out)) (h .put-head .last .0) (o .put-optional .last .0)
+          (h .put-head .result) (o .put-optional .result) (d .head-of .result) (d .head-of .ensures) (h .put-head .ensures .0) (o .put-optional .ensures .0)
+          (e .put-edges .result) (f .put-form .result) (e .put-edges .ensures .1) (f .put-form .ensures .1),
     )
 
 pub put-sheet-spec : {M : Type 1} → statement M
