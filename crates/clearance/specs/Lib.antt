@@ -1,2 +1,7 @@
--- What the entries' answers promise beyond being the defined ones: demand 3 of a map, and the bounds of a point.
+-- The laws of the face, all that a crate above needs beside `model`: each is a statement that model/specs/Promises names.
+-- the round trips, and what is known of a job that was read and of the bytes written
+pub mod Sheets
+-- demand 3 of a map, the exact verdict, and the bounds of a point
 pub mod Demands
+-- from a byte of a map to its meaning
+pub mod Letters

@@ -2,7 +2,7 @@
 -- Assumes nothing.
 use mathlib.Core.Path.{_≡_}
 use mathlib.Core.Bool.{false}
-use mathlib.Core.Logic.{_⊎_}
+use mathlib.Core.Logic.{_⊎_, _↔_}
 use mathlib.Core.List.{List, _++_}
 use Prim.Native.Nat.{ℕ, _+_, _*_, _≤_, _<_}
 use lib.IntN.{ℤ, pos}
@@ -10,6 +10,7 @@ use lib.ListN.{length, getD, take}
 use Rattle.basics.specs.Orders.{num⁺}
 use Rattle.model.specs.declared.Job.{Job}
 use Rattle.model.specs.declared.Read.{Read}
+use Rattle.model.specs.declared.Nearest.{Nearest}
 use Rattle.model.specs.Jobs.{outline, cellLog, judge}
 use Rattle.model.specs.Bytes.{bytes}
 use Rattle.model.specs.Sheets.{sheetOf}
@@ -17,9 +18,9 @@ use Rattle.model.specs.Trees.{anyLong}
 use Rattle.model.specs.Store.{forest, nodesOf}
 use Rattle.model.specs.Fractions.{Frac, whole, Point, dist², _≤ᶠ_}
 use Rattle.model.specs.Plates.{Verdict, letter, columns, cellsOf, mapOf}
-use Rattle.model.specs.Exact.{Points, Outline, CellPoint, Exact, Demand3}
+use Rattle.model.specs.Exact.{Points, Outline, CellPoint, Clear, Inside, Exact, R-E, R+E, NoCloser, SomeNear, Demand3}
 use Rattle.model.specs.Distance.{lo, hi}
-use Rattle.model.specs.Entries.{read, writeRefusal, write, writeLeaves, mapRefusal, pointRefusal}
+use Rattle.model.specs.Entries.{read, writeRefusal, write, writeLeaves, mapRefusal, map, mapCells, pointRefusal, IsNearest}
 use Rattle.model.specs.Printing.{printed}
 
 -- a job value of the code: its outline has 64 places of eight numbers
@@ -47,18 +48,76 @@ abbrev pub WriteRead : Type 0
 WriteRead = (j : Job) (out : List ℕ) → Whole j → write j out .refusal ≡ 0 → read (take (write j out .bytes) (writeLeaves j out)) ≡ readAs j
 
 -- ---- demand 3
+-- the byte of the smallest cell in column i and row k, in the map in `cells`, and that cell's points
+abbrev pub byteAt : Job → List ℕ → ℕ → ℕ → ℕ
+byteAt j cells i k = getD cells (k * columns j + i) 0
+
+abbrev pub cellIn : Job → ℕ → ℕ → Points
+cellIn j i k = CellPoint (cellLog j) (j .x) (j .y) i k
+
 -- of the map in `cells`: each smallest cell's byte is the letter of a verdict of which demand 3 holds
 pub record MapHolds (j : Job) (cells : List ℕ) : Type 0 where
   pub verdict : ℕ → ℕ → Verdict
-  pub letters : (i k : ℕ) → i < columns j → k < columns j → getD cells (k * columns j + i) 0 ≡ letter (verdict i k)
-  pub demand3 : (i k : ℕ) → i < columns j → k < columns j → Demand3 (Outline (outline j)) (CellPoint (cellLog j) (j .x) (j .y) i k) (j .reach) (j .grain) (cellLog j) (verdict i k)
+  pub letters : (i k : ℕ) → i < columns j → k < columns j → byteAt j cells i k ≡ letter (verdict i k)
+  pub demand3 : (i k : ℕ) → i < columns j → k < columns j → Demand3 (Outline (outline j)) (cellIn j i k) (j .reach) (j .grain) (cellLog j) (verdict i k)
 
 abbrev pub DemandThree : Type 0
 DemandThree = (j : Job) → judge j ≡ 0 → anyLong (forest j) ≡ false → MapHolds j (mapOf j)
 
+-- what an accepted map call leaves in the map lent
+abbrev pub MapTrue : Type 0
+MapTrue = (j : Job) (store : List ℤ) (cells : List ℕ) → map j store cells .refusal ≡ 0 → MapHolds j (mapCells j store cells)
+
 -- a cell has one exact verdict at the most
 abbrev pub ExactUnique : Type 1
 ExactUnique = (O C : Points) (R : ℤ) (Q : Point) → C Q → (v w : Verdict) → Exact O C R v → Exact O C R w → v ≡ w
+
+-- and it cannot be that it has none: which of them it has is not decided here, since points are without number
+abbrev pub ExactSome : Type 1
+ExactSome = (O C : Points) (R : ℤ) → ((v : Verdict) → Exact O C R v → ⊥) → ⊥
+
+-- ---- from a byte to its meaning: what holds of every cell that shows the byte b, in a map of which demand 3 holds
+abbrev pub Shows : ℕ → (Job → Points → Type 0) → Type 0
+Shows b Meant = (j : Job) (cells : List ℕ) → MapHolds j cells → (i k : ℕ) → i < columns j → k < columns j → byteAt j cells i k ≡ b → Meant j (cellIn j i k)
+
+-- C: the whole cell is farther than the reach from the outline
+abbrev pub ClearByte : Type 0
+ClearByte = Shows 67 (λ j C. Clear (Outline (outline j)) C (j .reach))
+
+-- I: every point of the cell has the outline closer than the reach
+abbrev pub InsideByte : Type 0
+InsideByte = Shows 73 (λ j C. Inside (Outline (outline j)) C (j .reach))
+
+-- D: the cell lies in the band, both ways
+abbrev pub DoubtfulByte : Type 0
+DoubtfulByte = Shows 68 (λ j C. NoCloser (Outline (outline j)) C (R-E (j .reach) (j .grain) (cellLog j)) × SomeNear (Outline (outline j)) C (R+E (j .reach) (j .grain) (cellLog j)))
+
+-- and no cell shows another byte
+abbrev pub NoOtherByte : Type 0
+NoOtherByte = (b : ℕ) → (b ≡ 67 → ⊥) → (b ≡ 73 → ⊥) → (b ≡ 68 → ⊥) → Shows b (λ j C. ⊥)
+
+-- ---- one call after another
+-- every job that reading gives has its 64 places, and it is a legal one exactly where the sheet was accepted
+abbrev pub ReadWhole : Type 0
+ReadWhole = (s : List ℕ) → Whole (read s .job)
+
+abbrev pub ReadLegal : Type 0
+ReadLegal = (s : List ℕ) → (judge (read s .job) ≡ 0) ↔ (read s .refusal ≡ 0)
+
+-- what is written lies within the memory lent, and of a refused write nothing is there to be read
+abbrev pub WriteFits : Type 0
+WriteFits = (j : Job) (out : List ℕ) → write j out .bytes ≤ length out
+
+abbrev pub UnwrittenUnread : Type 0
+UnwrittenUnread = (j : Job) (out : List ℕ) → (write j out .refusal ≡ 0 → ⊥) → read (take (write j out .bytes) (writeLeaves j out)) .refusal ≡ 1
+
+-- an accepted sheet's job, written again, leaves the sheet
+abbrev pub ReadWrite : Type 0
+ReadWrite = (s out : List ℕ) → read s .refusal ≡ 0 → write (read s .job) out .refusal ≡ 0 → Kept s (take (write (read s .job) out .bytes) (writeLeaves (read s .job) out))
+
+-- a job that is mapped is a legal one
+abbrev pub MapLegal : Type 0
+MapLegal = (j : Job) (store : List ℤ) (cells : List ℕ) → map j store cells .refusal ≡ 0 → judge j ≡ 0
 
 -- ---- the bounds of a point's distance are bounds of the outline's: no outline point is nearer to Q than the root of `lo`, and some is no
 -- farther than the root of `hi`, both squared lengths in fine units
@@ -74,6 +133,10 @@ pub record Bounds (j : Job) (Q : Point) (lo hi : ℤ) : Type 0 where
 
 abbrev pub PointBounds : Type 0
 PointBounds = (j : Job) → judge j ≡ 0 → (x y : ℤ) → Bounds j (wholePoint x y) (lo (forest j) x y) (hi (forest j) x y)
+
+-- what an accepted answer for a point bounds
+abbrev pub PointTrue : Type 0
+PointTrue = (j : Job) (x y : ℤ) (store : List ℤ) (r : Nearest) → IsNearest j x y store r → r .refusal ≡ 0 → Bounds j (wholePoint x y) (r .lo) (r .hi)
 
 -- ---- memory that is enough for every job, refused ones too
 -- 5,645 bytes for a sheet: no write is refused 7; and a sheet that has as many
