@@ -1,20 +1,19 @@
 -- The round trips, as a caller of the entries needs them: a job written and read, a sheet read and written, and what is known of a job that
 -- was read and of the bytes that were written. Assumes nothing.
-use mathlib.Core.Path.{_≡_, refl, sym, ap, ap₂, _∙_, subst}
+use mathlib.Core.Path.{_≡_, refl, sym, ap, _∙_, subst}
 use mathlib.Core.List.{List, []}
 use mathlib.Core.Logic.{_↔_}
 use Prim.Native.Nat.{ℕ, zero, suc, _≤_}
 use native.Mathlib.Omega.{arith}
 use lib.Dec.{leb}
-use lib.ListN.{length, take, drop}
-use lib.Seq.{take-at}
+use lib.ListN.{length, take}
 use Rattle.model.specs.declared.Job.{Job}
 use Rattle.model.specs.Refusals.{check, space, accepted}
 use Rattle.model.specs.Jobs.{counted, own, judge, zeroJob}
 use Rattle.model.specs.Forms.{byte, readForm}
 use Rattle.model.specs.Layouts.{readLine, readLines, readAll}
 use Rattle.model.specs.Sheets.{jobForm, layout, Sheet, lines, broken, jobOf, sheetOf, readSheet}
-use Rattle.model.specs.Entries.{over, readAnswer, read, writeRefusal, write, writeLeaves}
+use Rattle.model.specs.Entries.{readAnswer, read, writeRefusal, write, writeLeaves}
 use Rattle.model.specs.Promises.{Whole, Kept, JobKept, SheetKept, WriteRead, ReadWhole, ReadLegal, WriteFits, UnwrittenUnread, ReadWrite}
 use Rattle.integers.specs.Tests.{le-of}
 use Rattle.ranges.specs.Refusals.{passed-all, each-passed, accepted-is, refused-is}
@@ -80,13 +79,6 @@ module _ (j : Job) (out : List ℕ) where
   unfolding write writeRefusal
   has-room e = le-of (length (sheetOf j)) (length out) (passed-all (check space (leb (length (sheetOf j)) (length out))) (each-passed (own j []) (check space (leb (length (sheetOf j)) (length out))) e .1) .0)
 
-  -- the bytes that an accepted call wrote are the job's sheet
-  wrote : write j out .refusal ≡ 0 → take (write j out .bytes) (writeLeaves j out) ≡ sheetOf j
-  unfolding writeLeaves write
-  wrote e =
-      ap₂ take (bytes-accepted e) (accepted-is (writeRefusal j out) (over (sheetOf j) out) out e)
-      ∙ take-at (sheetOf j) (drop (length (sheetOf j)) out) (length (sheetOf j)) refl
-
 pub write-fits : WriteFits
 write-fits j out = go (write j out .refusal) refl
   where
@@ -102,4 +94,4 @@ pub unwritten-unread : UnwrittenUnread
 unwritten-unread j out h = ap (λ (n : ℕ). read (take n (writeLeaves j out)) .refusal) (bytes-refused j out h) ∙ nothing-read
 
 pub read-write : ReadWrite
-read-write s out h e = subst (Kept s) (sym (wrote (read s .job) out e)) (sheet-kept s h)
+read-write s out h e = subst (Kept s) (sym (trips.written-sheet (read s .job) out e)) (sheet-kept s h)

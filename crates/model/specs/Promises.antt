@@ -72,7 +72,7 @@ MapTrue = (j : Job) (store : List ℤ) (cells : List ℕ) → map j store cells 
 abbrev pub ExactUnique : Type 1
 ExactUnique = (O C : Points) (R : ℤ) (Q : Point) → C Q → (v w : Verdict) → Exact O C R v → Exact O C R w → v ≡ w
 
--- and it cannot be that it has none: which of them it has is not decided here, since points are without number
+-- and it cannot have none. Outline and cell are any points at all here, so which one it has cannot be told
 abbrev pub ExactSome : Type 1
 ExactSome = (O C : Points) (R : ℤ) → ((v : Verdict) → Exact O C R v → ⊥) → ⊥
 

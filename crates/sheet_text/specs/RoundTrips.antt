@@ -173,9 +173,13 @@ pub write-legal : (j : Job) (out : List ℕ) → writeRefusal j out ≡ 0 → ju
 unfolding writeRefusal judge
 write-legal j out h = each-passed (own j []) (check space (leb (length (sheetOf j)) (length out))) h .0
 
-pub write-read : WriteRead
+-- the bytes that it says it wrote are the job's sheet
+pub written-sheet : (j : Job) (out : List ℕ) → write j out .refusal ≡ 0 → take (write j out .bytes) (writeLeaves j out) ≡ sheetOf j
 unfolding write writeLeaves
-write-read j out n h =
-    ap read (ap₂ take (accepted-is (writeRefusal j out) (length (sheetOf j)) 0 h) (accepted-is (writeRefusal j out) (sheetOf j ++ drop (length (sheetOf j)) out) out h)
-    ∙ take-at (sheetOf j) (drop (length (sheetOf j)) out) (length (sheetOf j)) refl)
-    ∙ job-kept j n (write-legal j out h)
+written-sheet j out h =
+    ap₂ take (accepted-is (writeRefusal j out) (length (sheetOf j)) 0 h) (accepted-is (writeRefusal j out) (sheetOf j ++ drop (length (sheetOf j)) out) out h)
+    ∙ take-at (sheetOf j) (drop (length (sheetOf j)) out) (length (sheetOf j)) refl
+
+pub write-read : WriteRead
+unfolding write
+write-read j out n h = ap read (written-sheet j out h) ∙ job-kept j n (write-legal j out h)

@@ -1,5 +1,6 @@
 -- `round_trip::go` meets its contract. Assumes nothing.
 use mathlib.Core.Path.{_≡_, sym}
+use native.Mathlib.Omega.{arith}
 use lib.ListN.{length}
 use lib.Seq.{length-take-le}
 use Rattle.model.specs.Promises.{Whole}
@@ -16,14 +17,14 @@ slice-reshare-prefix-read c =
     let s = c .before .before .before .before .before .before in
     let w = c .before .before .write in
     let long : length (w .last .1 .0) ≡ length (s .args .out .now) = search needs in
-    steps.in-reach (s .args .job) (s .args .out .now) (w .last .1 .0) (w .result) (w .ensures .0) long
+    omega (arith, long, steps.in-reach (s .args .job) (s .args .out .now) (w .last .1 .0) (w .result) (w .ensures .0) long)
 
 slice-aggregate-read : tie.Need-slice-aggregate-read
 slice-aggregate-read c =
     let s = c .before .before .before .before .before .before .before in
     let w = c .before .before .before .write in
     let long : length (w .last .1 .0) ≡ length (s .args .out .now) = search needs in
-    sym (length-take-le (w .result .bytes) (w .last .1 .0) (steps.in-reach (s .args .job) (s .args .out .now) (w .last .1 .0) (w .result) (w .ensures .0) long))
+    sym (length-take-le _ (w .last .1 .0) (omega (arith, long, steps.in-reach (s .args .job) (s .args .out .now) (w .last .1 .0) (w .result) (w .ensures .0) long)))
 
 read-requires : tie.Need-read-requires
 read-requires c κs = search needs
