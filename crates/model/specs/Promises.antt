@@ -35,9 +35,17 @@ readAs j = record { refusal = 0; job = j }
 abbrev pub JobKept : Type 0
 JobKept = (j : Job) → Whole j → judge j ≡ 0 → read (sheetOf j) ≡ readAs j
 
--- the bytes are the same, or they are but for a line that states the default grain, which is dropped
+-- the line that states the default grain
+abbrev pub defaultLine : List ℕ
+defaultLine = bytes "(grain 10)\n"
+
+-- the bytes w stand nowhere in s
+abbrev pub Lacks : List ℕ → List ℕ → Type 0
+Lacks s w = (front back : List ℕ) → s ≡ front ++ (w ++ back) → ⊥
+
+-- no line states the default grain, and the bytes are the same; or one does, and they are the same without that line
 abbrev pub Kept : List ℕ → List ℕ → Type 0
-Kept s t = (t ≡ s) ⊎ ((front : List ℕ) × (back : List ℕ) × (s ≡ front ++ (bytes "(grain 10)\n" ++ back)) × (t ≡ front ++ back))
+Kept s t = ((t ≡ s) × Lacks s defaultLine) ⊎ ((front : List ℕ) × (back : List ℕ) × (s ≡ front ++ (defaultLine ++ back)) × (t ≡ front ++ back))
 
 -- an accepted sheet, read and written, keeps its bytes in that sense
 abbrev pub SheetKept : Type 0

@@ -3,6 +3,7 @@ pub mod Tests
 pub mod Numbers
 pub mod Forms
 pub mod Layouts
+pub mod Letters
 pub mod Sheets
 pub mod Optional
 pub mod Jobs

@@ -37,7 +37,7 @@ pub decimal-more : (k n : ℕ) → 10 ≤ n → decimal (suc k) n ≡ decimal k 
 unfolding decimal
 decimal-more k n h = no (ltb n 10) _ _ (le-ltb n 10 h)
 
-cases-ten : (n : ℕ) {X : Type 0} → (n < 10 → X) → (10 ≤ n → X) → X
+pub cases-ten : (n : ℕ) {X : Type 0} → (n < 10 → X) → (10 ≤ n → X) → X
 cases-ten n {X} f g = go (ltb n 10) refl
   where
     go : (t : Bool) → ltb n 10 ≡ t → X

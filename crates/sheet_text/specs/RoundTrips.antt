@@ -1,19 +1,20 @@
 -- The promises on the sheet: a legal job's sheet reads back as that job (`job-kept`), an accepted sheet keeps its bytes when read and
 -- written, but for a line that states the default grain (`sheet-kept`), and what was written reads back (`write-read`). Assumes nothing.
 use mathlib.Core.Path.{_≡_, refl, sym, ap, ap₂, _∙_, subst}
+use mathlib.Core.Bool.{true}
 use mathlib.Core.Logic.{_⊎_, inl, inr}
 use mathlib.Core.List.{List, [], _∷_, _++_, append-assoc}
-use Prim.Native.Nat.{ℕ, zero, suc, _*_, _-_, _≤_}
+use Prim.Native.Nat.{ℕ, zero, suc, _+_, _*_, _-_, _≤_}
 use native.Mathlib.Omega.{arith}
-use lib.Dec.{leb}
+use lib.Dec.{leb, lit<}
 use lib.IntN.{ℤ, pos}
 use lib.ListN.{length, getD, set, take, drop, replicate}
 use lib.Seq.{take-at, set-getD}
 use Rattle.sequences.specs.Tables.{table}
 use Rattle.model.specs.declared.Job.{Job}
 use Rattle.model.specs.declared.Read.{Read}
-use Rattle.model.specs.Bytes.{bytes}
-use Rattle.model.specs.Numbers.{text, decimal}
+use Rattle.model.specs.Bytes.{Got, got, bytes, digit}
+use Rattle.model.specs.Numbers.{text, decimal, number}
 use Rattle.model.specs.Forms.{writeForm}
 use Rattle.model.specs.Layouts.{section, Lines, plain, writeLine, writeLines, writeAll}
 use Rattle.model.specs.Refusals.{check, space, accepted}
@@ -21,15 +22,16 @@ use Rattle.model.specs.Jobs.{own, judge, zeroJob}
 use Rattle.model.specs.Sheets.{jobForm, plateForm, cellForm, reachForm, grainForm, edgeForm, endForm, longest, tailLayout, layout, jobAt, plateAt, cellAt, reachAt, grainAt, edgesAt, endAt, defaultGrain, stated, edgeLines, linesOf, sheetOf, joined, fit, numberAt, jobOf, Sheet, lines, broken, readSheet}
 use Rattle.model.specs.Entries.{readAnswer, read, writeRefusal, write, writeLeaves}
 use Rattle.ranges.specs.Refusals.{each-passed, accepted-is}
-use Rattle.model.specs.Promises.{JobKept, SheetKept, WriteRead, Kept, readAs}
-use Rattle.sheet_text.specs.Numbers.{Small}
+use Rattle.model.specs.Promises.{JobKept, SheetKept, WriteRead, defaultLine, Lacks, Kept, readAs}
+use Rattle.sheet_text.specs.Numbers.{Small, number-text}
 use Rattle.sheet_text.specs.Forms.{marks, AllSmall, nil-small, cons-small}
 use Rattle.sheet_text.specs.Layouts.{AllLines, FitsSection, FitsAll, fits-long, fits-at, around, one-fits}
+use Rattle.sheet_text.specs.Letters.{tally, tally-append, after, after-first, form-tally, lacked, lacked-by, lacked-but, others-lack}
 use Rattle.sheet_text.specs.Sheets.{sheet-text, text-sheet}
-use Rattle.sheet_text.specs.Optional.{stated-back, stated-fits, stated-again}
+use Rattle.sheet_text.specs.Optional.{Stated, stated-cases, stated-out, stated-back, stated-fits, none-or-one}
 use Rattle.sheet_text.specs.Jobs.{Legal, legal, placed-small, placed-kept}
 use Rattle.sheet_text.specs.Places.{edges-count, edges-fit, edges-joined, edges-back, joined-long, fit-is, spread, line-back}
-use Rattle.sheet_text.specs.Code.{sheet-long}
+use Rattle.sheet_text.specs.Code.{one-line, sheet-long}
 
 -- ---- the numbers of each form
 plate-marks : marks plateForm ≡ 3
@@ -140,22 +142,92 @@ lines-again gs f l =
     (ap (λ u. u ∷ []) (line-back endForm 0 (getD gs endAt []) end-marks (fits-at layout gs endAt f (omega arith)))))))))
     ∙ ap (λ u. set u grainAt (stated defaultGrain (numberAt gs grainAt 0 defaultGrain))) (spread 7 gs [] (fits-long layout gs f))
 
-grain-ten : writeLines (grainForm ∷ []) (plain (defaultGrain ∷ []) ∷ []) ≡ bytes "(grain 10)\n"
-unfolding writeLines writeLine writeForm grainForm text decimal
+grain-ten : writeForm grainForm (defaultGrain ∷ []) ≡ defaultLine
+unfolding writeForm grainForm text decimal
 grain-ten = refl
 
+-- ---- where a grain line stands: its n is the only one of a sheet
+abbrev grainLetter : ℕ
+grainLetter = 110
+
+grain-alone : lacked-but grainLetter grainAt layout ≡ true
+unfolding lacked-but lacked-by lacked tally layout tailLayout jobForm plateForm cellForm reachForm edgeForm endForm
+grain-alone = refl
+
+grain-tally : (v : ℤ) → tally grainLetter (writeForm grainForm (v ∷ [])) ≡ 1
+grain-tally v = form-tally grainLetter (lit< tt) grainForm (v ∷ []) ∙ (unfold tally grainForm in refl)
+
+-- the number behind it is the grain
+grain-found : (v : ℤ) (front back : List ℕ) → Small v → tally grainLetter front ≡ 0 → number (drop 1 (after grainLetter (front ++ (writeForm grainForm (v ∷ []) ++ back)))) ≡ got v (41 ∷ 10 ∷ back)
+unfolding writeForm grainForm
+grain-found v front back s h =
+    ap (λ u. number (drop 1 (after grainLetter u))) (sym (append-assoc front (bytes "(grai") (grainLetter ∷ 32 ∷ ((text v ++ (41 ∷ 10 ∷ [])) ++ back))))
+    ∙ ap (λ u. number (drop 1 u)) (after-first grainLetter (front ++ bytes "(grai") (32 ∷ ((text v ++ (41 ∷ 10 ∷ [])) ++ back)) (tally-append grainLetter front (bytes "(grai") ∙ omega (arith, h, none-yet)))
+    ∙ ap number (append-assoc (text v) (41 ∷ 10 ∷ []) back)
+    ∙ number-text v 41 (10 ∷ back) s (unfold digit in refl)
+  where
+    none-yet : tally grainLetter (bytes "(grai") ≡ 0
+    none-yet = unfold tally in refl
+
+line-tally : (u w : List ℕ) → tally grainLetter (u ++ (defaultLine ++ w)) ≡ tally grainLetter u + suc (tally grainLetter w)
+line-tally u w =
+    tally-append grainLetter u (defaultLine ++ w)
+    ∙ ap (λ k. tally grainLetter u + k) (tally-append grainLetter defaultLine w ∙ ap (λ k. k + tally grainLetter w) (ap (tally grainLetter) (sym grain-ten) ∙ grain-tally defaultGrain))
+    ∙ omega arith
+
+-- a text that has the letter nowhere else holds the default line only as its grain line
+module _ (front back : List ℕ) (f : tally grainLetter front ≡ 0) (b : tally grainLetter back ≡ 0) where
+  no-line : Lacks (front ++ back) defaultLine
+  no-line u w e = absurd (omega (arith, ap (tally grainLetter) e, tally-append grainLetter front back, line-tally u w, f, b))
+
+  other-line : (v : ℤ) → Small v → (v ≡ defaultGrain → ⊥) → Lacks (front ++ (writeForm grainForm (v ∷ []) ++ back)) defaultLine
+  other-line v s h u w e = h (same-number (sym (grain-found v front back s f) ∙ ap (λ t. number (drop 1 (after grainLetter t))) (e ∙ ap (λ t. u ++ (t ++ w)) (sym grain-ten)) ∙ grain-found defaultGrain u w ten-small before))
+    where
+      before : tally grainLetter u ≡ 0
+      before = omega (
+        arith,
+        ap (tally grainLetter) e,
+        tally-append grainLetter front (writeForm grainForm (v ∷ []) ++ back),
+        tally-append grainLetter (writeForm grainForm (v ∷ [])) back,
+        grain-tally v,
+        line-tally u w,
+        f,
+        b,
+      )
+
+      ten-small : Small defaultGrain
+      ten-small = unfold Small in lit< tt
+
+      same-number : {s t : List ℕ} → _≡_ {A = Got ℤ} (got v s) (got defaultGrain t) → v ≡ defaultGrain
+      same-number e = cc
+
+  -- the sheet with these lines in its grain section, and the sheet of the job that is read from it
+  abbrev Again : Lines → Type 0
+  Again g = Kept (front ++ (writeLines (grainForm ∷ []) g ++ back)) (front ++ (writeLines (grainForm ∷ []) (stated defaultGrain (getD (joined g) 0 defaultGrain)) ++ back))
+
+  again : (g : Lines) → (g ≡ []) ⊎ ((v : ℤ) × Small v × (g ≡ plain (v ∷ []) ∷ [])) → Again g
+  unfolding joined writeLines
+  again g (inl e) = subst Again (sym e) (inl (ap (λ u. front ++ (writeLines (grainForm ∷ []) u ++ back)) (stated-out defaultGrain defaultGrain refl), no-line))
+  again g (inr (v, s, e)) = subst Again (sym e) (said (stated-cases defaultGrain v))
+    where
+      line : front ++ (writeLines (grainForm ∷ []) (plain (v ∷ []) ∷ []) ++ back) ≡ front ++ (writeForm grainForm (v ∷ []) ++ back)
+      line = ap (λ u. front ++ (u ++ back)) (one-line grainForm (v ∷ []))
+
+      said : Stated defaultGrain v → Again (plain (v ∷ []) ∷ [])
+      said (inl h) =
+          inr (front, back, line ∙ ap (λ u. front ++ (u ++ back)) (ap (λ u. writeForm grainForm (u ∷ [])) (h .0) ∙ grain-ten), ap (λ u. front ++ (writeLines (grainForm ∷ []) u ++ back)) (h .1))
+      said (inr h) =
+          inl (ap (λ u. front ++ (writeLines (grainForm ∷ []) u ++ back)) (h .1), subst (λ u. Lacks u defaultLine) (sym line) (other-line v s (h .0)))
+
 kept-lines : (s : List ℕ) (gs : List Lines) → s ≡ writeAll layout gs → FitsAll layout gs → length (getD gs edgesAt []) ≤ 64 → Kept s (sheetOf (jobOf gs))
-unfolding sheetOf layout tailLayout
+unfolding sheetOf layout tailLayout writeLines
 kept-lines s gs q f l =
     let o = around layout gs grainAt (omega arith) (omega (arith, fits-long layout gs f)) in
-    go (getD gs grainAt []) (o .0) (o .1) (q ∙ ap (writeAll layout) (sym (set-getD gs grainAt [])) ∙ o .2 (getD gs grainAt []))
-    (ap (writeAll layout) (lines-again gs f l) ∙ o .2 (stated defaultGrain (numberAt gs grainAt 0 defaultGrain)))
-    (stated-again grainForm grain-marks defaultGrain (getD gs grainAt []) (fits-at layout gs grainAt f (omega arith)))
-  where
-    go : (g : Lines) (front back : List ℕ) → s ≡ front ++ (writeLines (grainForm ∷ []) g ++ back) → writeAll layout (linesOf (jobOf gs)) ≡ front ++ (writeLines (grainForm ∷ []) (stated defaultGrain (getD (joined g) 0 defaultGrain)) ++ back) → (stated defaultGrain (getD (joined g) 0 defaultGrain) ≡ g) ⊎ ((g ≡ plain (defaultGrain ∷ []) ∷ []) × (stated defaultGrain (getD (joined g) 0 defaultGrain) ≡ [])) → Kept s (writeAll layout (linesOf (jobOf gs)))
-    go g front back p t (inl e) = inl (t ∙ ap (λ u. front ++ (writeLines (grainForm ∷ []) u ++ back)) e ∙ sym p)
-    go g front back p t (inr e) =
-        inr (front, back, p ∙ ap (λ u. front ++ (u ++ back)) (ap (writeLines (grainForm ∷ [])) (e .0) ∙ grain-ten), t ∙ ap (λ u. front ++ (writeLines (grainForm ∷ []) u ++ back)) (e .1) ∙ (unfold writeLines in refl))
+    let z : tally grainLetter (o .0) + tally grainLetter (o .1) ≡ 0 = sym (tally-append grainLetter (o .0) (o .1)) ∙ sym (ap (tally grainLetter) (o .2 [])) ∙ others-lack grainLetter (lit< tt) grainAt layout gs grain-alone in
+    let p : s ≡ o .0 ++ (writeLines (grainForm ∷ []) (getD gs grainAt []) ++ o .1) = q ∙ ap (writeAll layout) (sym (set-getD gs grainAt [])) ∙ o .2 (getD gs grainAt []) in
+    let t = ap (writeAll layout) (lines-again gs f l) ∙ o .2 (stated defaultGrain (numberAt gs grainAt 0 defaultGrain)) in
+    let k = again (o .0) (o .1) (omega (arith, z)) (omega (arith, z)) (getD gs grainAt []) (none-or-one grainForm grain-marks (getD gs grainAt []) (fits-at layout gs grainAt f (omega arith))) in
+    subst (λ u. Kept u (writeAll layout (linesOf (jobOf gs)))) (sym p) (subst (Kept (o .0 ++ (writeLines (grainForm ∷ []) (getD gs grainAt []) ++ o .1))) (sym t) k)
 
 pub sheet-kept : SheetKept
 unfolding read readAnswer
