@@ -27,8 +27,9 @@ pub mod Fractions
 pub mod Exact
 -- ---- "Distance of a point"
 pub mod Distance
--- ---- what each public entry answers and leaves
+-- ---- what each public entry answers and leaves, and the cases in which it refuses
 pub mod Entries
+pub mod Cases
 -- ---- what the program prints
 pub mod Printing
 -- ---- what is proved of all this

@@ -22,6 +22,7 @@ use Rattle.model.specs.Exact.{Points, Outline, CellPoint, Clear, Inside,
 use Rattle.model.specs.Distance.{lo, hi}
 use Rattle.model.specs.Entries.{read, writeRefusal, write, writeLeaves, mapRefusal, map, mapCells, pointRefusal, IsNearest}
 use Rattle.model.specs.Printing.{printed}
+use Rattle.model.specs.Cases.{ReadApplies, WriteApplies, MapApplies, PointApplies, Lowest}
 
 -- a job value of the code: its outline has 64 places of eight numbers
 abbrev pub Whole : Job → Type 0
@@ -29,6 +30,19 @@ Whole j = length (j .places) ≡ 512
 
 abbrev pub readAs : Job → Read
 readAs j = record { refusal = 0; job = j }
+
+-- ---- demand 1: each entry gives the lowest number of which the case applies, or 0 where none does
+abbrev pub ReadLowest : Type 0
+ReadLowest = (sheet : List ℕ) → Lowest (ReadApplies sheet) (read sheet .refusal)
+
+abbrev pub WriteLowest : Type 0
+WriteLowest = (j : Job) (out : List ℕ) → Lowest (WriteApplies j out) (write j out .refusal)
+
+abbrev pub MapLowest : Type 0
+MapLowest = (j : Job) (store : List ℤ) (cells : List ℕ) → Lowest (MapApplies j store cells) (map j store cells .refusal)
+
+abbrev pub PointLowest : Type 0
+PointLowest = (j : Job) (x y : ℤ) (store : List ℤ) (r : Nearest) → IsNearest j x y store r → Lowest (PointApplies j x y store) (r .refusal)
 
 -- ---- demand 2: the round trips
 -- a legal job's sheet reads back as that job
