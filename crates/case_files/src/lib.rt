@@ -1,5 +1,6 @@
 // What the programs that run stored cases share: a case is an argument, the name of a file that holds a sheet.
 use libc::STDOUT_FILENO;
+use showing::Input;
 ghost use mathlib.Core.Path.{_≡_};
 ghost use Prim.Native.Nat.{min};
 ghost use Rattle.io.specs.Counts.{Counts};
@@ -11,28 +12,25 @@ pub fn least(a: usize, b: usize) -> usize
     if a < b { a } else { b }
 }
 
-// Reads the file of that name to the front of `sheet`: how many bytes, at most as many as fit. A file that cannot be opened is told where the
-// answers stand, so that it passes for no empty sheet.
-fn read_file(name: &[u8], sheet: &mut [u8]) -> usize
-    ensures count { λ r. ⌜ Counts r (now (sheet .exit)) ⌝ }
-{
-    let fd = os::open_read(name);
-    if fd < 0 {
-        io::write_all(STDOUT_FILENO, b"(no file)\n");
-        return 0;
-    }
-    let k = io::read_full(fd, sheet);
-    libc::close(fd);
-    k
-}
-
-// Prints the name of case i, a line, and reads its sheet to the front of `sheet`: how many bytes.
-pub fn read_case(i: usize, sheet: &mut [u8]) -> usize
-    ensures count { λ r. ⌜ Counts r (now (sheet .exit)) ⌝ }
-{
+// Prints the name of case i, a line, and opens its file. A file that cannot be opened is told where the answers stand, and reading it fails.
+pub fn open_case(i: usize) -> i32 {
     let mut name = io::buffer();
     let k = os::arg(i, &mut name);
     io::write_all(STDOUT_FILENO, &name[..k]);
     io::write_all(STDOUT_FILENO, b"\n");
-    read_file(&name[..k], sheet)
+    let fd = os::open_read(&name[..k]);
+    if fd < 0 {
+        io::write_all(STDOUT_FILENO, b"(no file)\n");
+    }
+    fd
+}
+
+// Prints the name of case i and reads its sheet to the front of `sheet`, as the program reads its input.
+pub fn read_case(i: usize, sheet: &mut [u8]) -> Input
+    ensures count { λ r. ⌜ Counts (r .count) (now (sheet .exit)) ⌝ }
+{
+    let fd = open_case(i);
+    let input = showing::read_input(fd, sheet);
+    libc::close(fd);
+    input
 }

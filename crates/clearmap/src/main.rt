@@ -1,9 +1,7 @@
-// The program: a job sheet from standard input, its clearance map or its refusal to standard output. One byte more than a sheet may have is
-// read, so that a longer one is told.
+// The program: a job sheet from standard input, its clearance map or its refusal to standard output. No contract stands on `main`, so that it
+// has nothing of its own.
 use libc::STDIN_FILENO;
 
 fn main() {
-    let mut sheet = [0u8; 8193];
-    let k = io::read_full(STDIN_FILENO, &mut sheet);
-    showing::show_sheet(&sheet[..k]);
+    showing::answer(STDIN_FILENO);
 }

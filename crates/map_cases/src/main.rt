@@ -1,9 +1,9 @@
-// Prints the map, or the refusal, of each stored sheet.
+// Prints the map, or the refusal, of each stored sheet, as the program does.
 
 fn show_case(i: usize) {
-    let mut sheet = [0u8; 8200];
-    let k = case_files::read_case(i, &mut sheet);
-    showing::show_sheet(&sheet[..k]);
+    let fd = case_files::open_case(i);
+    showing::answer(fd);
+    libc::close(fd);
 }
 
 fn main() {

@@ -27,13 +27,20 @@ rowsText n (suc k) cells = rowText (take n cells) ++ rowsText n k (drop n cells)
 unfoldable pub mapText : ℕ → List ℕ → List ℕ
 mapText n cells = writeForm mapForm (pos n ∷ []) ++ (rowsText n n cells ++ bytes ")\n")
 
--- ---- whole: 16,380 numbers and 65,536 bytes are lent, and neither is looked at before it is written
+-- ---- whole: the program lends the library this many numbers for the trees and this many bytes for the letters, and neither is looked at before
+-- it is written
+abbrev pub storeLent : ℕ
+storeLent = 16380
+
+abbrev pub cellsLent : ℕ
+cellsLent = 65536
+
 unfoldable pub answered : ℕ → Job → List ℕ
 answered zero j = mapText (columns j) (mapOf j)
 answered (suc k) j = writeForm refusedForm (pos (suc k) ∷ [])
 
 unfoldable pub mapAnswered : ℕ → Job → List ℕ
-mapAnswered zero j = answered (mapRefusal j (replicate 16380 (pos 0)) (replicate 65536 0)) j
+mapAnswered zero j = answered (mapRefusal j (replicate storeLent (pos 0)) (replicate cellsLent 0)) j
 mapAnswered (suc k) j = answered (suc k) j
 
 unfoldable pub printed : List ℕ → List ℕ

@@ -102,9 +102,13 @@ fn ask_sheet(sheet: &[u8]) {
 }
 
 fn ask_case(i: usize) {
-    let mut sheet = [0u8; 8200];
-    let k = case_files::read_case(i, &mut sheet);
-    ask_sheet(&sheet[..k]);
+    let mut sheet = [0u8; 8193];
+    let input = case_files::read_case(i, &mut sheet);
+    let whole = input.whole;
+    let k = input.count;
+    if whole {
+        ask_sheet(&sheet[..k]);
+    }
 }
 
 fn main() {

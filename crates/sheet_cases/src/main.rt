@@ -1,24 +1,33 @@
-// Reads each stored sheet and prints the refusal, or the sheet that is written of its job. A few bytes more than a sheet may have are read, so
-// that a longer one is told.
+// Reads each stored sheet and prints the refusal, or the sheet that is written of its job. One byte more than a sheet may have is read, so that a
+// longer one is told.
 use libc::STDOUT_FILENO;
 use model::Job;
+ghost use mathlib.Core.Path.{_≡_};
+ghost use Rattle.model.specs.Sheets.{sheetOf};
+
+// Hands on the sheet that is written of a job, and nothing else.
+fn hand_sheet(text: &[u8], job: Job)
+    requires sheet { ⌜ now text ≡ sheetOf job ⌝ }
+{
+    io::write_all(STDOUT_FILENO, text);
+}
 
 fn show_written(job: Job) {
     let mut out = [0u8; 5700];
     let done = clearance::write(job, &mut out);
     let refusal = done.refusal;
-    if refusal != 0 {
+    if refusal > 0 {
         showing::show_refusal(refusal);
         return;
     }
-    let n = case_files::least(done.bytes, 5700);
-    io::write_all(STDOUT_FILENO, &out[..n]);
+    let n = done.bytes;
+    hand_sheet(&out[..n], job);
 }
 
 fn show_sheet(sheet: &[u8]) {
     let got = clearance::read(sheet);
     let refusal = got.refusal;
-    if refusal != 0 {
+    if refusal > 0 {
         showing::show_refusal(refusal);
         return;
     }
@@ -27,9 +36,13 @@ fn show_sheet(sheet: &[u8]) {
 }
 
 fn show_case(i: usize) {
-    let mut sheet = [0u8; 8200];
-    let k = case_files::read_case(i, &mut sheet);
-    show_sheet(&sheet[..k]);
+    let mut sheet = [0u8; 8193];
+    let input = case_files::read_case(i, &mut sheet);
+    let whole = input.whole;
+    let k = input.count;
+    if whole {
+        show_sheet(&sheet[..k]);
+    }
 }
 
 fn main() {

@@ -1,8 +1,8 @@
 use mathlib.Core.Path.{_≡_, sym}
 use native.Mathlib.Omega.{arith}
-use lib.ListN.{length}
 use lib.Seq.{length-take-le}
 use borrow.Author.Needs.{needs}
+use Rattle.sheet_cases.proofs.Steps as steps
 use Rattle.sheet_cases.proofs.show_written.Statement.{statement}
 use Rattle.sheet_cases.proofs.show_written.Tie as tie
 
@@ -18,21 +18,23 @@ show-refusal-requires c κs = search needs
 returns : tie.Need-returns
 returns c = search needs
 
-least-requires : tie.Need-least-requires
-least-requires c κs = search needs
-
 array-share-prefix-out : tie.Need-array-share-prefix-out
-array-share-prefix-out c = search needs
+array-share-prefix-out c =
+    let w = c .before .before .write in
+    let z : w .result .refusal ≡ 0 = omega (arith, c .if1 .left) in
+    steps.within (c .before .before .before .before .args .job) _ (w .last .1 .0) (w .result) (w .ensures .0) (w .ensures .1) z
 
-slice-aggregate-write-all : tie.Need-slice-aggregate-write-all
-slice-aggregate-write-all c =
-    let l = c .before .least in
-    let w = c .before .before .before .before .write in
-    let long : length (w .last .1 .0) ≡ 5700 = search needs in
-    sym (length-take-le (l .result) (w .last .1 .0) (omega (arith, l .ensures)))
+slice-aggregate-hand-sheet : tie.Need-slice-aggregate-hand-sheet
+slice-aggregate-hand-sheet c =
+    let w = c .before .before .before .write in
+    let z : w .result .refusal ≡ 0 = omega (arith, c .before .if1 .left) in
+    sym (length-take-le (w .result .bytes) (w .last .1 .0) (steps.within (c .before .before .before .before .before .args .job) _ (w .last .1 .0) (w .result) (w .ensures .0) (w .ensures .1) z))
 
-write-all-requires : tie.Need-write-all-requires
-write-all-requires c κs = search needs
+hand-sheet-requires : tie.Need-hand-sheet-requires
+hand-sheet-requires c κs =
+    let w = c .before .before .before .write in
+    let z : w .result .refusal ≡ 0 = omega (arith, c .before .if1 .left) in
+    steps.written (c .before .before .before .before .before .args .job) _ (w .last .1 .0) (w .result) (w .ensures .0) (w .ensures .1) z
 
 returns-2 : tie.Need-returns-2
 returns-2 c = search needs
@@ -45,8 +47,7 @@ show-written-spec =
     write-requires
     show-refusal-requires
     returns
-    least-requires
     array-share-prefix-out
-    slice-aggregate-write-all
-    write-all-requires
+    slice-aggregate-hand-sheet
+    hand-sheet-requires
     returns-2)

@@ -14,11 +14,11 @@ put-refusal-requires c κs = search needs
 array-share-prefix-out : tie.Need-array-share-prefix-out
 array-share-prefix-out c = search needs
 
-slice-aggregate-write-all : tie.Need-slice-aggregate-write-all
-slice-aggregate-write-all c = let r = c .before .before .put-refusal in sym (length-take-le (r .result) (r .last .0) (omega (arith, r .ensures .1, r .kept .0)))
+slice-aggregate-hand-refusal : tie.Need-slice-aggregate-hand-refusal
+slice-aggregate-hand-refusal c = let r = c .before .before .put-refusal in sym (length-take-le (r .result) (r .last .0) (omega (arith, r .ensures .1, r .kept .0)))
 
-write-all-requires : tie.Need-write-all-requires
-write-all-requires c κs = search needs
+hand-refusal-requires : tie.Need-hand-refusal-requires
+hand-refusal-requires c κs = let r = c .before .before .put-refusal in r .ensures .0 .wrote
 
 returns : tie.Need-returns
 returns c = search needs
@@ -30,6 +30,6 @@ show-refusal-spec =
     slice-aggregate-put-refusal
     put-refusal-requires
     array-share-prefix-out
-    slice-aggregate-write-all
-    write-all-requires
+    slice-aggregate-hand-refusal
+    hand-refusal-requires
     returns)
