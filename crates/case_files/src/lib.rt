@@ -1,9 +1,11 @@
 // What the programs that run stored cases share: a case is an argument, the name of a file that holds a sheet.
 use libc::STDOUT_FILENO;
+use model::Read;
 use showing::Input;
 ghost use mathlib.Core.Path.{_≡_};
 ghost use Prim.Native.Nat.{min};
 ghost use Rattle.io.specs.Counts.{Counts};
+ghost use Rattle.model.specs.Entries.{read};
 
 // The smaller of two numbers: what a count says, and no more than there is.
 pub fn least(a: usize, b: usize) -> usize
@@ -33,4 +35,12 @@ pub fn read_case(i: usize, sheet: &mut [u8]) -> Input
     let input = showing::read_input(fd, sheet);
     libc::close(fd);
     input
+}
+
+// Shows the refusal that reading a sheet gives, and nothing else.
+pub fn show_refused(got: Read, sheet: &[u8])
+    requires answer { ⌜ got ≡ read (now sheet) ⌝ }
+{
+    let refusal = got.refusal;
+    showing::show_refusal(refusal);
 }

@@ -4,6 +4,7 @@ use libc::STDOUT_FILENO;
 use model::Job;
 use model::Nearest;
 ghost use Prim.Native.Nat.{_≤_};
+ghost use Rattle.model.specs.Entries.{IsNearest};
 
 // A bound as io prints it. No bound is negative; a negative one would show as a number that no bound reaches.
 fn printable(bound: i64) -> u64 {
@@ -15,7 +16,10 @@ fn show_number(before: &[u8], n: u64) {
     io::print_decimal(STDOUT_FILENO, n);
 }
 
-fn show_nearest(near: Nearest) {
+// Shows an answer to a question, and nothing else.
+fn show_nearest(near: Nearest, job: Job, x: i32, y: i32, store: &[i32])
+    requires answer { ⌜ IsNearest job x y (now store) near ⌝ }
+{
     let refusal = near.refusal;
     if refusal != 0 {
         showing::show_refusal(refusal);
@@ -31,7 +35,7 @@ fn show_nearest(near: Nearest) {
 fn ask(job: Job, x: i32, y: i32, store: &[i32], n: usize) {
     let k = case_files::least(n, store.len());
     let near = clearance::point(job, x, y, &store[..k]);
-    show_nearest(near);
+    show_nearest(near, job, x, y, &store[..k]);
 }
 
 // Points in, on and past the range, and on the outline.
@@ -94,7 +98,7 @@ fn ask_sheet(sheet: &[u8]) {
     let got = clearance::read(sheet);
     let refusal = got.refusal;
     if refusal != 0 {
-        showing::show_refusal(refusal);
+        case_files::show_refused(got, sheet);
         return;
     }
     let job = got.job;

@@ -28,7 +28,7 @@ fn show_sheet(sheet: &[u8]) {
     let got = clearance::read(sheet);
     let refusal = got.refusal;
     if refusal > 0 {
-        showing::show_refusal(refusal);
+        case_files::show_refused(got, sheet);
         return;
     }
     let job = got.job;

@@ -16,6 +16,11 @@ slice-aggregate-point c =
 point-requires : tie.Need-point-requires
 point-requires c κs = search needs
 
+slice-aggregate-show-nearest : tie.Need-slice-aggregate-show-nearest
+slice-aggregate-show-nearest c =
+    let l = c .before .before .before .least in
+    sym (length-take-le (l .result) (c .before .before .before .before .args .store .now) (omega (arith, l .ensures)))
+
 show-nearest-requires : tie.Need-show-nearest-requires
 show-nearest-requires c κs = search needs
 
@@ -25,4 +30,4 @@ returns c = search needs
 pub ask-spec : {M : Type 1} → statement M
 ask-spec =
     tie.close
-    (tie.spec least-requires slice-aggregate-point point-requires show-nearest-requires returns)
+    (tie.spec least-requires slice-aggregate-point point-requires slice-aggregate-show-nearest show-nearest-requires returns)
