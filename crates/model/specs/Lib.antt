@@ -35,4 +35,9 @@ pub mod Printing
 -- ---- what is proved of all this
 pub mod Promises
 -- ---- "Figures to hold"
+pub mod FigureTables
 pub mod Figures
+pub mod JobFigures
+pub mod StripFigures
+pub mod PlateFigures
+pub mod EntryFigures

@@ -1,0 +1,183 @@
+-- Figures of the entries: of any two refusals that apply the lower is given, memory lent is long enough or one place too short, what it
+-- holds afterwards, and what the program lends. Everything is computed. Assumes nothing.
+use mathlib.Core.Path.{_≡_, refl}
+use mathlib.Core.Bool.{Bool, true, false}
+use mathlib.Core.List.{List, [], _∷_, _++_}
+use mathlib.Core.Logic.{inl}
+use Prim.Native.Nat.{ℕ}
+use Prim.Native.String.{String}
+use lib.IntN.{ℤ, pos, negsuc}
+use lib.ListN.{length, take, replicate}
+use Rattle.sequences.specs.Tables.{table}
+use Rattle.sequences.specs.RowMajor.{rowMajor}
+use Rattle.integers.specs.Absolute.{absℤ}
+use Rattle.model.specs.declared.Job.{Job}
+use Rattle.model.specs.declared.Written.{Written}
+use Rattle.model.specs.declared.Map.{Map}
+use Rattle.model.specs.declared.Nearest.{Nearest}
+use Rattle.model.specs.Refusals.{accepted}
+use Rattle.model.specs.Jobs.{between, coordinate, isZero, placed, counted, ranged, celled, judge, edgesFrom, outline}
+use Rattle.model.specs.Bytes.{bytes, digit}
+use Rattle.model.specs.Numbers.{decimal, text, moreDigits, natural, number}
+use Rattle.model.specs.Forms.{writeForm, byte, readForm}
+use Rattle.model.specs.Layouts.{writeLine, writeLines, writeAll, readLine, readLines, readAll}
+use Rattle.model.specs.Sheets.{jobForm, plateForm, cellForm, reachForm, grainForm, edgeForm, endForm, tailLayout, layout, same, stated, edgeLines, sheetOf, joined, fit, ended, readSheet}
+use Rattle.model.specs.Strips.{sideAt, strip}
+use Rattle.model.specs.Trees.{pieces, tree}
+use Rattle.model.specs.Store.{forest, begins}
+use Rattle.model.specs.Roots.{rootBy, root}
+use Rattle.model.specs.Explore.{isInside, isAway₁, isAway₂, explore, exploreAll}
+use Rattle.model.specs.Plates.{drawn, mapped, mapOf}
+use Rattle.model.specs.Distance.{leaves, leavesAll, leavesAt, least}
+use Rattle.model.specs.Entries.{readAnswer, read, writeRefusal, write, writeLeaves, mapRefusal, map, mapStore, mapCells, pointRefusal, IsNearest}
+use Rattle.model.specs.Printing.{rowText, rowsText, mapForm, refusedForm, mapText, answered, mapAnswered, printed}
+use Rattle.model.specs.FigureTables.{AllHold, _and_, job}
+
+pub data Figure : Type 0 where
+  -- writing a job into memory that holds this: the answer, and what the memory holds then
+  writes : Job → List ℕ → Written → List ℕ → Figure
+  -- the refusal, with so many bytes lent
+  write-refused : Job → ℕ → ℕ → Figure
+  -- drawing a job's map into a store and cells that hold these: the answer, and what they hold then
+  maps : Job → List ℤ → List ℕ → Map → List ℤ → List ℕ → Figure
+  -- the refusal, with so many numbers and cells lent
+  map-refused : Job → ℕ → ℕ → ℕ → Figure
+  -- asking for a point: the refusal, with this store lent
+  point-refused : Job → ℤ → ℤ → List ℤ → ℕ → Figure
+  -- the whole answer
+  point-of : Job → ℤ → ℤ → List ℤ → Nearest → Figure
+  -- the program's input and what it prints, or how that begins
+  prints : String → String → Figure
+  prints-first : String → String → Figure
+
+abbrev pub Holds : Figure → Type 0
+Holds (writes j out w left) = (write j out ≡ w) × (writeLeaves j out ≡ left)
+Holds (write-refused j n k) = writeRefusal j (replicate n 0) ≡ k
+Holds (maps j s c a t d) = (map j s c ≡ a) × (mapStore j s c ≡ t) × (mapCells j s c ≡ d)
+Holds (map-refused j s c k) = mapRefusal j (replicate s (pos 0)) (replicate c 0) ≡ k
+Holds (point-refused j x y ns k) = pointRefusal j x y ns ≡ k
+Holds (point-of j x y ns a) = IsNearest j x y ns a
+Holds (prints s t) = printed (bytes s) ≡ bytes t
+Holds (prints-first s t) = take (length (bytes t)) (printed (bytes s)) ≡ bytes t
+
+-- ---- shorthands
+-- a point edge on a plate of 2 · 2 cells of side 1, for a corner x, a count of edges and an M
+abbrev pub small : ℤ → ℕ → ℤ → Job
+small x k m = job x (pos 0) (pos 1) m (pos 9) (pos 10) k []
+
+abbrev pub sound : Job
+sound = small (pos 0) 1 (pos 0)
+
+-- an edge that is long at depth 10, with an M
+abbrev pub long : ℤ → Job
+long m = job (pos 0) (pos 0) (pos 1) m (pos 1) (pos 1) 1 (pos 0 ∷ pos 0 ∷ pos 333333 ∷ pos 0 ∷ pos 666666 ∷ pos 0 ∷ pos 999999 ∷ pos 0 ∷ [])
+
+abbrev pub soundStore : List ℤ
+soundStore = pos 0 ∷ pos 0 ∷ pos 0 ∷ pos 0 ∷ pos 2 ∷ pos 2 ∷ pos 1 ∷ []
+
+abbrev pub soundSheet : String
+soundSheet = "(job\n(plate 0 0 1)\n(cell 0)\n(reach 9)\n(edge (0 0) (0 0) (0 0) (0 0))\n)\n"
+
+abbrev pub refused : ℕ → Nearest
+refused k = record { refusal = k; lo = pos 0; hi = pos 0; edge = 0 }
+
+-- out of every range
+abbrev pub off : ℤ
+off = pos 1000001
+
+-- ---- writing: the sheet has 71 bytes
+abbrev pub writeFigures : List Figure
+writeFigures =
+    writes sound (replicate 73 7) (record { refusal = 0; bytes = 71 }) (bytes soundSheet ++ (7 ∷ 7 ∷ []))
+    ∷ writes sound (replicate 71 7) (record { refusal = 0; bytes = 71 }) (bytes soundSheet)
+    ∷ writes sound (replicate 70 7) (record { refusal = 7; bytes = 0 }) (replicate 70 7)
+    ∷ writes (small (pos 0) 0 (pos 0)) (replicate 70 7) (record { refusal = 2; bytes = 0 }) (replicate 70 7)
+    ∷ write-refused (small off 0 (pos 2)) 0 2
+    ∷ write-refused (small off 1 (pos 2)) 0 3
+    ∷ write-refused (small (pos 0) 1 (pos 2)) 0 4
+    ∷ write-refused sound 0 7
+    -- a long edge may be written
+    ∷ write-refused (long (pos 0)) 100 0
+    ∷ []
+
+-- ---- drawing
+abbrev pub mapFigures : List Figure
+mapFigures =
+    maps sound (replicate 9 (pos 5)) (replicate 6 5) (record { refusal = 0; nodes = 1 }) (soundStore ++ (pos 5 ∷ pos 5 ∷ [])) (bytes "IIII" ++ (5 ∷ 5 ∷ []))
+    ∷ maps sound (replicate 7 (pos 5)) (replicate 4 5) (record { refusal = 0; nodes = 1 }) soundStore (bytes "IIII")
+    ∷ maps sound (replicate 6 (pos 5)) (replicate 4 5) (record { refusal = 6; nodes = 0 }) (replicate 6 (pos 5)) (replicate 4 5)
+    ∷ maps sound (replicate 7 (pos 5)) (replicate 3 5) (record { refusal = 7; nodes = 0 }) (replicate 7 (pos 5)) (replicate 3 5)
+    ∷ map-refused (small off 0 (pos 2)) 0 0 2
+    ∷ map-refused (small off 1 (pos 2)) 0 0 3
+    ∷ map-refused (long (pos 2)) 0 0 4
+    ∷ map-refused (long (pos 0)) 0 0 5
+    ∷ map-refused sound 0 0 6
+    ∷ map-refused sound 7 0 7
+    -- two nodes
+    ∷ map-refused (small (pos 0) 2 (pos 0)) 13 4 6
+    ∷ map-refused (small (pos 0) 2 (pos 0)) 14 4 0
+    ∷ []
+
+-- ---- asking
+abbrev pub pointFigures : List Figure
+pointFigures =
+    point-refused sound (pos 1000000) (negsuc 999999) soundStore 0
+    ∷ point-refused sound (negsuc 999999) (pos 1000000) soundStore 0
+    ∷ point-refused sound (pos 1000001) (pos 0) soundStore 3
+    ∷ point-refused sound (negsuc 1000000) (pos 0) soundStore 3
+    ∷ point-refused sound (pos 0) (pos 1000001) soundStore 3
+    ∷ point-refused sound (pos 0) (negsuc 1000000) soundStore 3
+    ∷ point-refused (small (pos 0) 0 (pos 2)) off off [] 2
+    ∷ point-refused (small off 1 (pos 2)) (pos 0) (pos 0) [] 3
+    ∷ point-refused (small (pos 0) 1 (pos 2)) off (pos 0) [] 3
+    ∷ point-refused (long (pos 2)) (pos 0) (pos 0) [] 4
+    ∷ point-refused (long (pos 0)) (pos 0) (pos 0) [] 5
+    ∷ point-refused sound (pos 0) (pos 0) (replicate 6 (pos 5)) 6
+    ∷ point-refused sound (pos 0) (pos 0) (replicate 7 (pos 5)) 8
+    ∷ point-of sound (pos 3) (pos 4) (soundStore ++ (pos 5 ∷ [])) (record { refusal = 0; lo = pos 5960; hi = pos 6856; edge = 0 })
+    ∷ point-of sound off (pos 4) soundStore (refused 3)
+    ∷ point-of sound (pos 3) (pos 4) [] (refused 6)
+    ∷ point-of sound (pos 3) (pos 4) (replicate 7 (pos 2)) (refused 8)
+    ∷ []
+
+-- ---- printing
+abbrev pub printFigures : List Figure
+printFigures =
+    -- rows from the lowest, letters from the left
+    prints "(job\n(plate 0 0 4)\n(cell 2)\n(reach 7)\n(grain 1)\n(edge (2 14) (2 14) (2 14) (2 14))\n)\n" "(map 4\n(row CCCC)\n(row DDCC)\n(row IDDC)\n(row IIDC)\n)\n"
+    ∷ prints "(job\n(plate 0 0 0)\n(cell 0)\n(reach 1)\n)\n" "(refused 2)\n"
+    ∷ prints "(job\n(plate 0 0 0)\n(cell 0)\n(reach 1)\n(grain 1)\n(edge (0 0) (333333 0) (666666 0) (999999 0))\n)\n" "(refused 5)\n"
+    -- 256 · 256 cells are drawn
+    ∷ prints-first "(job\n(plate 0 0 8)\n(cell 0)\n(reach 1)\n(edge (0 0) (0 0) (0 0) (0 0))\n)\n" "(map 256\n"
+    -- 2,340 nodes, and 2,341
+    ∷ prints "(job\n(plate 0 0 0)\n(cell 0)\n(reach 1)\n(grain 489)\n(edge (0 0) (333333 0) (666666 0) (999999 0))\n(edge (0 0) (41000 0) (82000 0) (123000 0))\n(edge (0 0) (5000 0) (10000 0) (15000 0))\n(edge (0 0) (1000 0) (2000 0) (3000 0))\n)\n" "(map 1\n(row D)\n)\n"
+    ∷ prints "(job\n(plate 0 0 0)\n(cell 0)\n(reach 1)\n(grain 489)\n(edge (0 0) (333333 0) (666666 0) (999999 0))\n(edge (0 0) (41000 0) (82000 0) (123000 0))\n(edge (0 0) (5000 0) (10000 0) (15000 0))\n(edge (0 0) (1000 0) (2000 0) (3000 0))\n(edge (0 0) (0 0) (0 0) (0 0))\n)\n" "(refused 6)\n"
+    ∷ []
+
+-- ---- the statements
+pub writing-holds : AllHold Holds writeFigures
+unfolding write writeLeaves writeRefusal accepted counted ranged celled between coordinate isZero placed layout tailLayout jobForm plateForm cellForm reachForm grainForm edgeForm endForm sheetOf writeAll writeLines writeLine writeForm text decimal stated same edgeLines
+writing-holds =
+    (refl, refl) and (refl, refl) and (refl, refl) and (refl, refl) and refl and refl and refl and refl and refl
+    and tt
+
+pub drawing-holds : AllHold Holds mapFigures
+unfolding map mapStore mapCells mapRefusal accepted counted ranged celled between coordinate isZero placed forest outline edgesFrom sideAt strip absℤ tree pieces mapOf mapped rowMajor table drawn exploreAll explore isInside isAway₁ isAway₂ root rootBy
+drawing-holds =
+    (refl, refl, refl) and (refl, refl, refl) and (refl, refl, refl) and (refl, refl, refl)
+    and refl and refl and refl and refl and refl and refl and refl and refl
+    and tt
+
+pub asking-holds : AllHold Holds pointFigures
+unfolding pointRefusal accepted counted ranged celled between coordinate isZero placed forest outline edgesFrom sideAt strip absℤ tree pieces begins same leaves leavesAll leavesAt least
+asking-holds =
+    refl and refl and refl and refl and refl and refl and refl and refl and refl and refl and refl and refl and refl
+    and (record { refusal-is = refl; lo-is = refl; hi-is = refl; edge-is = inl refl })
+    and (record { refusal-is = refl; lo-is = refl; hi-is = refl; edge-is = refl })
+    and (record { refusal-is = refl; lo-is = refl; hi-is = refl; edge-is = refl })
+    and (record { refusal-is = refl; lo-is = refl; hi-is = refl; edge-is = refl })
+    and tt
+
+pub printing-holds : AllHold Holds printFigures
+unfolding printed mapAnswered answered mapText rowsText rowText mapForm refusedForm read readAnswer readSheet ended layout tailLayout jobForm plateForm cellForm reachForm grainForm edgeForm endForm readAll readLines readLine readForm byte number natural moreDigits digit joined fit judge accepted counted ranged celled between coordinate isZero placed writeForm text decimal mapRefusal forest outline edgesFrom sideAt strip absℤ tree pieces mapOf mapped rowMajor table drawn exploreAll explore isInside isAway₁ isAway₂ root rootBy
+printing-holds = refl and refl and refl and refl and refl and refl and tt

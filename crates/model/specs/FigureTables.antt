@@ -1,0 +1,38 @@
+-- What the tables of figures share: when all figures of a table hold, and jobs in short. Assumes nothing.
+use mathlib.Core.List.{List, [], _∷_, _++_}
+use Prim.Native.Nat.{ℕ, _-_}
+use lib.IntN.{ℤ, pos}
+use lib.ListN.{length, replicate}
+use Rattle.model.specs.declared.Job.{Job}
+use Rattle.model.specs.Jobs.{Cubic, Edge}
+use Rattle.model.specs.Strips.{Side, Strip}
+
+-- a table of figures of the kinds F, of which H says when one holds
+abbrev pub AllHold : {F : Type 0} → (F → Type 0) → List F → Type 0
+AllHold H [] = Unit {0}
+AllHold H (f ∷ fs) = H f × AllHold H fs
+
+infixr 4 _and_
+pub _and_ : {A B : Type 0} → A → B → A × B
+a and b = (a, b)
+
+-- ---- shorthands
+abbrev pub cubic : ℤ → ℤ → ℤ → ℤ → Cubic
+cubic b0 b1 b2 b3 = record { b0 = b0; b1 = b1; b2 = b2; b3 = b3 }
+
+abbrev pub edge : Cubic → Cubic → Edge
+edge x y = record { x = x; y = y }
+
+abbrev pub side : ℤ → ℤ → ℤ → Side
+side c a b = record { centre = c; axis = a; box = b }
+
+abbrev pub stripOf : Side → Side → Strip
+stripOf x y = record { x = x; y = y }
+
+-- 512 numbers: these, then zeros
+abbrev pub padded : List ℤ → List ℤ
+padded vs = vs ++ replicate (512 - length vs) (pos 0)
+
+-- corner x and y, N, M, reach, grain, count of edges and their numbers
+abbrev pub job : ℤ → ℤ → ℤ → ℤ → ℤ → ℤ → ℕ → List ℤ → Job
+job x y n m r t k vs = record { x = x; y = y; n = n; m = m; reach = r; grain = t; count = k; places = padded vs }

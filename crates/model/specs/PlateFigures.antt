@@ -1,0 +1,205 @@
+-- Figures on either side of each number and each comparison of exploring, the plate and the distance of a point. Everything is computed.
+-- Assumes nothing.
+use mathlib.Core.Path.{_≡_, refl, subst}
+use mathlib.Core.Bool.{Bool, true, false}
+use mathlib.Core.Logic.{_⊎_, inl, inr}
+use mathlib.Core.List.{List, [], _∷_, _++_}
+use Prim.Native.Nat.{ℕ, zero, suc}
+use Prim.Native.String.{String}
+use lib.Dec.{T}
+use lib.IntN.{ℤ, pos, negsuc}
+use lib.Signed.{ltZ, ltZ-yes, <ℤ-irrefl}
+use Rattle.integers.specs.Order.{_≺_}
+use Rattle.sequences.specs.Tables.{table}
+use Rattle.sequences.specs.RowMajor.{rowMajor}
+use Rattle.integers.specs.Absolute.{absℤ}
+use Rattle.model.specs.declared.Job.{Job}
+use Rattle.model.specs.Jobs.{edgesFrom, outline}
+use Rattle.model.specs.Bytes.{bytes}
+use Rattle.model.specs.Strips.{Side, Strip, sideAt, strip}
+use Rattle.model.specs.Trees.{Tree, leaf, long, node, pieces, tree}
+use Rattle.model.specs.Store.{forest}
+use Rattle.model.specs.Roots.{rootBy, root}
+use Rattle.model.specs.Explore.{Cell, Answer, inside, away, maybe, isInside, isAway₁, isAway₂, verdict, join, settle, explore, exploreAll}
+use Rattle.model.specs.Plates.{Verdict, clear, within, doubtful, mixed, letter, drawn, mapped, mapOf}
+use Rattle.model.specs.Distance.{leaves, leavesAll, leavesAt, least, lo, hi, Attains}
+use Rattle.model.specs.FigureTables.{AllHold, _and_, side, stripOf, job}
+
+pub data Figure : Type 0 where
+  -- the three tests of a cell and a strip at reach r: inside, away by the boxes, away across the axis
+  tests : ℤ → Cell → Strip → Bool → Bool → Bool → Figure
+  -- what a strip says of a cell
+  says : ℤ → Cell → Strip → Answer → Figure
+  -- two answers joined
+  joins : Answer → Answer → Answer → Figure
+  -- trees whose strips say what `told` gives
+  explores : List Tree → Answer → Figure
+  letters : Verdict → ℕ → Figure
+  -- a job's map, row after row from the lowest
+  maps : Job → String → Figure
+  -- the least centre of some strips
+  least-of : List ℤ → ℤ → Figure
+  -- the bounds of a point's distance
+  bounds : Job → ℤ → ℤ → ℤ → ℤ → Figure
+  -- an edge that may be named, and one that may not
+  named : Job → ℤ → ℤ → ℕ → Figure
+  not-named : Job → ℤ → ℤ → ℕ → Figure
+
+-- ---- shorthands
+abbrev pub cell : ℤ → ℤ → ℤ → Cell
+cell x y s = record { cx = x; cy = y; s = s }
+
+-- a strip that is known by its centre
+abbrev pub at : ℤ → Strip
+at c = stripOf (side c (pos 0) (pos 2)) (side (pos 0) (pos 0) (pos 2))
+
+-- at 0 inside, at 1 away, elsewhere neither
+abbrev pub told : ℤ → Answer
+told (pos n) = elim n [ zero ↦ inside | suc k ↦ elim k [ zero ↦ away | suc l ↦ maybe ] ]
+told (negsuc n) = maybe
+
+abbrev pub strips : List ℤ → List Strip
+strips [] = []
+strips (c ∷ cs) = at c ∷ strips cs
+
+abbrev pub Holds : Figure → Type 0
+Holds (tests r c S i a b) = (isInside r c S ≡ i) × (isAway₁ r c S ≡ a) × (isAway₂ r c S ≡ b)
+Holds (says r c S a) = verdict r c S ≡ a
+Holds (joins a b c) = join a b ≡ c
+Holds (explores ts a) = exploreAll (λ S. told (S .x .centre)) ts ≡ a
+Holds (letters v b) = letter v ≡ b
+Holds (maps j s) = mapOf j ≡ bytes s
+Holds (least-of cs c) = least (λ S. S .x .centre) (strips cs) ≡ c
+Holds (bounds j x y l h) = (lo (forest j) x y ≡ l) × (hi (forest j) x y ≡ h)
+Holds (named j x y e) = Attains (forest j) x y e
+Holds (not-named j x y e) = Attains (forest j) x y e → ⊥
+
+abbrev pub I : Tree
+I = leaf (at (pos 0))
+
+abbrev pub A : Tree
+A = leaf (at (pos 1))
+
+abbrev pub M : Tree
+M = leaf (at (pos 2))
+
+-- point edges at (0, 0) and (10, 7), and at (0, 0) and (10, 0)
+abbrev pub two : Job
+two = job (negsuc 3) (pos 0) (pos 4) (pos 2) (pos 6) (pos 1) 2 (pos 0 ∷ pos 0 ∷ pos 0 ∷ pos 0 ∷ pos 0 ∷ pos 0 ∷ pos 0 ∷ pos 0 ∷ pos 10 ∷ pos 7 ∷ pos 10 ∷ pos 7 ∷ pos 10 ∷ pos 7 ∷ pos 10 ∷ pos 7 ∷ [])
+
+abbrev pub level : Job
+level = job (pos 0) (pos 0) (pos 0) (pos 0) (pos 1) (pos 1) 2 (pos 0 ∷ pos 0 ∷ pos 0 ∷ pos 0 ∷ pos 0 ∷ pos 0 ∷ pos 0 ∷ pos 0 ∷ pos 10 ∷ pos 0 ∷ pos 10 ∷ pos 0 ∷ pos 10 ∷ pos 0 ∷ pos 10 ∷ pos 0 ∷ [])
+
+-- a slanted edge, which is halved once
+abbrev pub slanted : Job
+slanted = job (pos 3) (pos 6) (pos 4) (pos 2) (pos 6) (pos 4) 1 (pos 11 ∷ pos 16 ∷ pos 6 ∷ pos 16 ∷ pos 12 ∷ pos 14 ∷ pos 13 ∷ pos 22 ∷ [])
+
+abbrev pub here : Cell
+here = cell (pos 10) (negsuc 19) (pos 7)
+
+-- ---- exploring
+abbrev pub exploreFigures : List Figure
+exploreFigures =
+    -- 30 and 40 at the farthest, so 50 in all
+    tests (pos 50) here (stripOf (side (pos 17) (negsuc 10) (pos 5)) (side (negsuc 10) (pos 14) (pos 10))) false false false
+    ∷ tests (pos 51) here (stripOf (side (pos 17) (negsuc 10) (pos 5)) (side (negsuc 10) (pos 14) (pos 10))) true false false
+    -- 30 and 40 at the closest
+    ∷ tests (pos 50) here (stripOf (side (pos 63) (negsuc 10) (pos 5)) (side (negsuc 90) (pos 14) (pos 10))) false false false
+    ∷ tests (pos 49) here (stripOf (side (pos 63) (negsuc 10) (pos 5)) (side (negsuc 90) (pos 14) (pos 10))) false true false
+    -- where the boxes overlap in one coordinate, the other alone counts
+    ∷ tests (pos 40) here (stripOf (side (pos 10) (negsuc 10) (pos 5)) (side (negsuc 90) (pos 14) (pos 10))) false false false
+    ∷ tests (pos 39) here (stripOf (side (pos 10) (negsuc 10) (pos 5)) (side (negsuc 90) (pos 14) (pos 10))) false true false
+    ∷ tests (pos 30) here (stripOf (side (pos 63) (negsuc 10) (pos 5)) (side (negsuc 19) (pos 14) (pos 10))) false false false
+    ∷ tests (pos 29) here (stripOf (side (pos 63) (negsuc 10) (pos 5)) (side (negsuc 19) (pos 14) (pos 10))) false true false
+    -- an axis (3, 4) of length 5: at 10 · 5 and one above, on either side of the axis
+    ∷ tests (pos 10) here (stripOf (side (negsuc 9) (pos 3) (pos 2)) (side (negsuc 7) (pos 4) (pos 3))) false false false
+    ∷ tests (pos 10) here (stripOf (side (negsuc 10) (pos 3) (pos 2)) (side (negsuc 8) (pos 4) (pos 3))) false false true
+    ∷ tests (pos 10) here (stripOf (side (pos 30) (pos 3) (pos 2)) (side (negsuc 31) (pos 4) (pos 3))) false false false
+    ∷ tests (pos 10) here (stripOf (side (pos 31) (pos 3) (pos 2)) (side (negsuc 30) (pos 4) (pos 3))) false false true
+    -- an axis (−3, 5) of length 6, rounded up
+    ∷ tests (pos 10) here (stripOf (side (pos 28) (negsuc 2) (pos 2)) (side (negsuc 4) (pos 5) (pos 3))) false false false
+    ∷ tests (pos 10) here (stripOf (side (pos 27) (negsuc 2) (pos 2)) (side (negsuc 2) (pos 5) (pos 3))) false false true
+    -- each test alone gives the answer
+    ∷ says (pos 50) here (stripOf (side (pos 63) (negsuc 10) (pos 5)) (side (negsuc 90) (pos 14) (pos 10))) maybe
+    ∷ says (pos 51) here (stripOf (side (pos 17) (negsuc 10) (pos 5)) (side (negsuc 10) (pos 14) (pos 10))) inside
+    ∷ says (pos 49) here (stripOf (side (pos 63) (negsuc 10) (pos 5)) (side (negsuc 90) (pos 14) (pos 10))) away
+    ∷ says (pos 10) here (stripOf (side (pos 27) (negsuc 2) (pos 2)) (side (negsuc 2) (pos 5) (pos 3))) away
+    ∷ joins inside inside inside
+    ∷ joins inside away inside
+    ∷ joins inside maybe inside
+    ∷ joins away inside inside
+    ∷ joins away away away
+    ∷ joins away maybe maybe
+    ∷ joins maybe inside inside
+    ∷ joins maybe away maybe
+    ∷ joins maybe maybe maybe
+    -- a node's own answer, and its halves' where it has none
+    ∷ explores [] away
+    ∷ explores (node (at (pos 0)) A M ∷ []) inside
+    ∷ explores (node (at (pos 1)) I M ∷ []) away
+    ∷ explores (node (at (pos 2)) A A ∷ []) away
+    ∷ explores (node (at (pos 2)) A M ∷ []) maybe
+    ∷ explores (node (at (pos 2)) I A ∷ []) inside
+    ∷ explores (node (at (pos 2)) A I ∷ []) inside
+    ∷ explores (long (at (pos 0)) ∷ []) inside
+    ∷ explores (A ∷ M ∷ A ∷ []) maybe
+    ∷ explores (M ∷ A ∷ I ∷ []) inside
+    ∷ explores (A ∷ A ∷ []) away
+    ∷ []
+
+-- ---- maps and points
+abbrev pub plateFigures : List Figure
+plateFigures =
+    letters clear 67
+    ∷ letters within 73
+    ∷ letters doubtful 68
+    ∷ letters mixed 0
+    -- maps that no turn and no mirror leaves as they are
+    ∷ maps (job (negsuc 2) (pos 5) (pos 3) (pos 0) (pos 2) (pos 1) 1 (negsuc 1 ∷ pos 11 ∷ negsuc 1 ∷ pos 11 ∷ negsuc 1 ∷ pos 11 ∷ negsuc 1 ∷ pos 11 ∷ [])) "CCCCCCCCCCCCCCCCCCCCCCCCDDCCCCCCDDDCCCCCIIDDCCCCIIDDCCCCDDDCCCCC"
+    ∷ maps two "IIDDDDDICDDICCDD"
+    -- the last cell of the lowest row is clear across the axis alone; with a reach of nothing others would be
+    ∷ maps slanted "DDDCDDDDDIDDDDDD"
+    ∷ least-of [] (pos 0)
+    ∷ least-of (pos 4 ∷ []) (pos 4)
+    ∷ least-of (pos 4 ∷ pos 5 ∷ pos 6 ∷ []) (pos 4)
+    ∷ least-of (pos 5 ∷ pos 4 ∷ pos 6 ∷ []) (pos 4)
+    ∷ least-of (pos 5 ∷ pos 6 ∷ negsuc 3 ∷ []) (negsuc 3)
+    -- the nearer of two edges, and either where both are as near
+    ∷ bounds two (pos 3) (pos 4) (pos 5960) (pos 6856)
+    ∷ named two (pos 3) (pos 4) 0
+    ∷ not-named two (pos 3) (pos 4) 1
+    ∷ bounds two (pos 9) (pos 9) (pos 1096) (pos 1480)
+    ∷ not-named two (pos 9) (pos 9) 0
+    ∷ named two (pos 9) (pos 9) 1
+    ∷ not-named two (pos 9) (pos 9) 2
+    ∷ named level (pos 5) (pos 0) 0
+    ∷ named level (pos 5) (pos 0) 1
+    -- the halves count, and not the whole
+    ∷ bounds slanted (pos 9) (pos 18) (pos 81) (pos 2746)
+    ∷ bounds slanted (pos 14) (pos 16) (pos 81) (pos 8330)
+    ∷ bounds slanted (pos 9) (pos 16) (pos 0) (pos 1274)
+    ∷ []
+
+-- ---- the statements
+-- the one strip of an edge is farther than the bound
+apart : (a b : ℤ) → T (ltZ b a) → (a ≡ b) ⊎ ⊥ → ⊥
+apart a b t (inl e) = <ℤ-irrefl (subst (λ z. b ≺ z) e (ltZ-yes t))
+apart a b t (inr h) = h
+
+pub exploring-holds : AllHold Holds exploreFigures
+unfolding isInside isAway₁ isAway₂ absℤ root rootBy explore exploreAll
+exploring-holds =
+    (refl, refl, refl) and (refl, refl, refl) and (refl, refl, refl) and (refl, refl, refl) and (refl, refl, refl) and (refl, refl, refl) and (refl, refl, refl)
+    and (refl, refl, refl) and (refl, refl, refl) and (refl, refl, refl) and (refl, refl, refl) and (refl, refl, refl) and (refl, refl, refl) and (refl, refl, refl)
+    and refl and refl and refl and refl
+    and refl and refl and refl and refl and refl and refl and refl and refl and refl
+    and refl and refl and refl and refl and refl and refl and refl and refl and refl and refl and refl
+    and tt
+
+pub plates-hold : AllHold Holds plateFigures
+unfolding mapOf mapped rowMajor table drawn exploreAll explore isInside isAway₁ isAway₂ absℤ root rootBy strip sideAt tree pieces forest outline edgesFrom leaves leavesAll leavesAt least
+plates-hold =
+    refl and refl and refl and refl and refl and refl and refl and refl and refl and refl and refl and refl
+    and (refl, refl) and inl refl and apart (pos 15496) (pos 6856) tt and (refl, refl) and apart (pos 42632) (pos 1480) tt and inl refl and (λ h. h) and inl refl and inl refl
+    and (refl, refl) and (refl, refl) and (refl, refl)
+    and tt

@@ -1,0 +1,128 @@
+-- Figures on either side of each number and each comparison of strips, trees, the store and the root. Everything is computed. Assumes nothing.
+use mathlib.Core.Path.{_≡_, refl}
+use mathlib.Core.Bool.{Bool, true, false}
+use mathlib.Core.List.{List, [], _∷_, _++_}
+use Prim.Native.Nat.{ℕ}
+use lib.IntN.{ℤ, pos, negsuc}
+use Rattle.integers.specs.Absolute.{absℤ}
+use Rattle.model.specs.declared.Job.{Job}
+use Rattle.model.specs.Jobs.{Cubic, Edge, edgesFrom, outline}
+use Rattle.model.specs.Strips.{Side, Strip, sideAt, strip, denominator, middle, short}
+use Rattle.model.specs.Trees.{Tree, leaf, long, node, pieces, tree, anyLong}
+use Rattle.model.specs.Sheets.{same}
+use Rattle.model.specs.Store.{flatten, forest, nodesOf, storeOf, begins}
+use Rattle.model.specs.Roots.{rootBy, root}
+use Rattle.model.specs.FigureTables.{AllHold, _and_, cubic, edge, side, stripOf, job}
+
+pub data Figure : Type 0 where
+  -- the strip of piece k of depth d
+  strip-of : Edge → ℕ → ℕ → Side → Side → Figure
+  -- whether a strip is short at grain T
+  short-at : ℤ → Strip → Bool → Figure
+  -- the numbers of an edge's tree at grain T, node after node
+  tree-of : ℤ → Edge → List ℤ → Figure
+  -- whether some tree has a long end
+  long-of : List Tree → Bool → Figure
+  -- a job's nodes and its store
+  store-of : Job → ℕ → List ℤ → Figure
+  -- whether the first numbers are the second
+  begins-with : List ℤ → List ℤ → Bool → Figure
+  root-of : ℕ → ℕ → Figure
+
+abbrev pub Holds : Figure → Type 0
+Holds (strip-of e d k x y) = strip e d k ≡ stripOf x y
+Holds (short-at T s b) = short T s ≡ b
+Holds (tree-of T e ns) = flatten (tree T e) ≡ ns
+Holds (long-of ts b) = anyLong ts ≡ b
+Holds (store-of j n ns) = (nodesOf j ≡ n) × (storeOf j ≡ ns)
+Holds (begins-with s ns b) = begins s ns ≡ b
+Holds (root-of n h) = root n ≡ h
+
+-- ---- shorthands
+-- no two coefficients are alike, and none is small against the quotients
+abbrev pub uneven : Edge
+uneven = edge (cubic (pos 17) (pos 1000) (negsuc 2999) (pos 5001)) (cubic (negsuc 999) (pos 4000) (negsuc 2499) (negsuc 6999))
+
+-- it is halved on the right, again and again
+abbrev pub leaning : Edge
+leaning = edge (cubic (pos 0) (pos 0) (pos 3) (pos 40)) (cubic (pos 5) (pos 9) (pos 0) (negsuc 5))
+
+-- a strip by its axes and boxes
+abbrev pub span : ℤ → ℤ → ℤ → ℤ → Strip
+span p q a b = stripOf (side (pos 0) p a) (side (pos 0) q b)
+
+abbrev pub dot : Strip
+dot = span (pos 0) (pos 0) (pos 2) (pos 2)
+
+-- ---- the table
+abbrev pub stripFigures : List Figure
+stripFigures =
+    strip-of uneven 2 2 (side (pos 4787) (pos 8730) (pos 2247)) (side (negsuc 30038) (negsuc 24292) (pos 1255))
+    ∷ strip-of uneven 3 5 (side (pos 8590) (pos 6527) (pos 647)) (side (negsuc 41924) (negsuc 13254) (pos 223))
+    -- 16 fine units are a grain of 1: just short, and not, in either coordinate
+    ∷ short-at (pos 1) (span (negsuc 13) (pos 0) (pos 2) (pos 2)) true
+    ∷ short-at (pos 1) (span (negsuc 14) (pos 0) (pos 2) (pos 2)) false
+    ∷ short-at (pos 1) (span (pos 14) (pos 0) (pos 3) (pos 2)) false
+    ∷ short-at (pos 1) (span (pos 0) (pos 14) (pos 2) (pos 2)) true
+    ∷ short-at (pos 1) (span (pos 0) (pos 15) (pos 2) (pos 2)) false
+    ∷ short-at (pos 1) (span (pos 0) (negsuc 13) (pos 2) (pos 3)) false
+    ∷ short-at (pos 3) (span (pos 40) (pos 41) (pos 8) (pos 7)) true
+    -- left halves before right ones, at each depth
+    ∷ tree-of (pos 6) leaning
+    (pos 209 ∷ pos 22 ∷ pos 305 ∷ negsuc 95 ∷ pos 129 ∷ pos 40 ∷ pos 11
+    ∷ pos 33 ∷ pos 80 ∷ pos 47 ∷ negsuc 14 ∷ pos 20 ∷ pos 16 ∷ pos 1
+    ∷ pos 330 ∷ negsuc 19 ∷ pos 269 ∷ negsuc 74 ∷ pos 43 ∷ pos 4 ∷ pos 9
+    ∷ pos 186 ∷ pos 18 ∷ pos 96 ∷ negsuc 35 ∷ pos 10 ∷ pos 3 ∷ pos 3
+    ∷ pos 136 ∷ pos 36 ∷ pos 40 ∷ negsuc 16 ∷ pos 4 ∷ pos 2 ∷ pos 1
+    ∷ pos 232 ∷ pos 0 ∷ pos 56 ∷ negsuc 18 ∷ pos 4 ∷ pos 2 ∷ pos 1
+    ∷ pos 454 ∷ negsuc 57 ∷ pos 175 ∷ negsuc 38 ∷ pos 13 ∷ pos 2 ∷ pos 5
+    ∷ pos 364 ∷ negsuc 38 ∷ pos 76 ∷ negsuc 19 ∷ pos 5 ∷ pos 2 ∷ pos 1
+    ∷ pos 538 ∷ negsuc 76 ∷ pos 99 ∷ negsuc 18 ∷ pos 5 ∷ pos 2 ∷ pos 3
+    ∷ pos 488 ∷ negsuc 67 ∷ pos 46 ∷ negsuc 9 ∷ pos 3 ∷ pos 2 ∷ pos 1
+    ∷ pos 587 ∷ negsuc 86 ∷ pos 52 ∷ negsuc 8 ∷ pos 3 ∷ pos 2 ∷ pos 1 ∷ [])
+    -- one long end is enough, wherever it is
+    ∷ long-of [] false
+    ∷ long-of (node dot (leaf dot) (leaf dot) ∷ leaf dot ∷ []) false
+    ∷ long-of (node dot (leaf dot) (long dot) ∷ leaf dot ∷ []) true
+    ∷ long-of (leaf dot ∷ node dot (long dot) (leaf dot) ∷ []) true
+    -- edges in their order, each with its own count
+    ∷ store-of (job (pos 0) (pos 0) (pos 0) (pos 0) (pos 1) (pos 4) 2 (pos 10 ∷ pos 7 ∷ pos 10 ∷ pos 7 ∷ pos 10 ∷ pos 7 ∷ pos 10 ∷ pos 7 ∷ pos 11 ∷ pos 16 ∷ pos 6 ∷ pos 16 ∷ pos 12 ∷ pos 14 ∷ pos 13 ∷ pos 22 ∷ [])) 4
+    (pos 160 ∷ pos 112 ∷ pos 0 ∷ pos 0 ∷ pos 2 ∷ pos 2 ∷ pos 1
+    ∷ pos 174 ∷ pos 280 ∷ pos 24 ∷ pos 42 ∷ pos 28 ∷ pos 32 ∷ pos 3
+    ∷ pos 156 ∷ pos 255 ∷ negsuc 8 ∷ negsuc 0 ∷ pos 14 ∷ pos 5 ∷ pos 1
+    ∷ pos 184 ∷ pos 294 ∷ pos 27 ∷ pos 47 ∷ pos 4 ∷ pos 14 ∷ pos 1 ∷ [])
+    -- a long end is a node too
+    ∷ begins-with (flatten (node dot (long dot) (leaf dot))) (pos 0 ∷ pos 0 ∷ pos 0 ∷ pos 0 ∷ pos 2 ∷ pos 2 ∷ pos 3 ∷ pos 0 ∷ pos 0 ∷ pos 0 ∷ pos 0 ∷ pos 2 ∷ pos 2 ∷ pos 1 ∷ pos 0 ∷ []) true
+    -- more may follow, and none may be missing or another, in its sign either
+    ∷ begins-with (pos 5 ∷ negsuc 5 ∷ pos 7 ∷ []) (pos 5 ∷ negsuc 5 ∷ []) true
+    ∷ begins-with (pos 5 ∷ negsuc 5 ∷ []) (pos 5 ∷ negsuc 5 ∷ []) true
+    ∷ begins-with (pos 5 ∷ []) (pos 5 ∷ negsuc 5 ∷ []) false
+    ∷ begins-with (pos 6 ∷ negsuc 5 ∷ []) (pos 5 ∷ negsuc 5 ∷ []) false
+    ∷ begins-with (pos 5 ∷ negsuc 6 ∷ []) (pos 5 ∷ negsuc 5 ∷ []) false
+    ∷ begins-with (pos 5 ∷ pos 5 ∷ []) (pos 5 ∷ negsuc 5 ∷ []) false
+    ∷ begins-with (negsuc 5 ∷ negsuc 5 ∷ []) (pos 5 ∷ negsuc 5 ∷ []) false
+    ∷ begins-with [] [] true
+    -- roots, rounded up
+    ∷ root-of 0 0
+    ∷ root-of 1 1
+    ∷ root-of 2 2
+    ∷ root-of 4 2
+    ∷ root-of 5 3
+    ∷ root-of 9 3
+    ∷ root-of 10 4
+    ∷ root-of 16 4
+    ∷ root-of 17 5
+    ∷ root-of 1522756 1234
+    ∷ root-of 1522757 1235
+    ∷ root-of 1525225 1235
+    ∷ []
+
+pub strips-hold : AllHold Holds stripFigures
+unfolding strip sideAt absℤ tree pieces forest outline edgesFrom begins same root rootBy
+strips-hold =
+    refl and refl and refl and refl and refl and refl and refl and refl and refl and refl
+    and refl and refl and refl and refl
+    and (refl, refl)
+    and refl and refl and refl and refl and refl and refl and refl and refl and refl
+    and refl and refl and refl and refl and refl and refl and refl and refl and refl and refl and refl and refl
+    and tt
