@@ -41,3 +41,4 @@ pub mod JobFigures
 pub mod StripFigures
 pub mod PlateFigures
 pub mod EntryFigures
+pub mod ExactFigures
