@@ -37,8 +37,11 @@ pub mod Promises
 -- ---- "Figures to hold"
 pub mod FigureTables
 pub mod Figures
+-- ---- figures on either side of each number and comparison, a file for each part above
+pub mod SheetFigures
 pub mod JobFigures
 pub mod StripFigures
 pub mod PlateFigures
 pub mod EntryFigures
+pub mod PointFigures
 pub mod ExactFigures
