@@ -1,14 +1,17 @@
 -- Figures on either side of each comparison of fractions, of two points' distance, and of the points of an edge and of a cell. Assumes nothing.
-use mathlib.Core.Path.{_≡_, refl}
+use mathlib.Core.Path.{_≡_, refl, ap, _∙_}
 use mathlib.Core.Bool.{Bool, true, false}
 use mathlib.Core.Logic.{_⊎_, inl, inr}
 use mathlib.Core.List.{List, [], _∷_}
 use Prim.Native.Nat.{ℕ, suc}
-use lib.IntN.{ℤ, pos, negsuc}
-use Rattle.integers.specs.Order.{num⁺}
+use lib.IntN.{ℤ, pos, negsuc, _+ℤ_, _-ℤ_, _*ℤ_}
+use Rattle.integers.specs.RingSolver.{_^ℤ_, name₁, name₂, name₄, reify, close, ok}
+use Rattle.integers.specs.Order.{_≼_, num⁺, _⊠_}
+use Rattle.integers.specs.Omega.{zarith}
+use Rattle.integers.specs.Inequalities.{≼-*}
 use Rattle.model.specs.Jobs.{Cubic, Edge}
 use Rattle.model.specs.Fractions.{Frac, _≤ᶠ_, _<ᶠ_, whole, _+ᶠ_, _-ᶠ_, sqᶠ, Point, dist², Closer, Farther, AtMost, AtLeast}
-use Rattle.model.specs.Exact.{coordinateAt, Curve, Outline, CellPoint}
+use Rattle.model.specs.Exact.{bernstein, coordinateAt, Curve, Outline, CellPoint}
 use Rattle.model.specs.FigureTables.{AllHold, _and_, cubic, edge}
 
 -- ---- shorthands
@@ -34,8 +37,9 @@ pub data Figure : Type 0 where
   no-more : Frac → Frac → Bool → Figure
   -- two points and a length: closer, at most, at least, farther
   apart : Point → Point → Frac → Bool → Bool → Bool → Bool → Figure
-  -- a point of the outline
+  -- a point of the outline, and one that is not
   on : List Edge → Point → Figure
+  off : List Edge → Point → Figure
   -- whether a point is one of the cell's
   in-cell : ℕ → ℤ → ℤ → ℕ → ℕ → Point → Bool → Figure
 
@@ -45,6 +49,7 @@ Holds (less a b t) = Is t (a <ᶠ b)
 Holds (no-more a b t) = Is t (a ≤ᶠ b)
 Holds (apart P Q l c m n f) = Is c (Closer P Q l) × Is m (AtMost P Q l) × Is n (AtLeast P Q l) × Is f (Farther P Q l)
 Holds (on es P) = Outline es P
+Holds (off es P) = Outline es P → ⊥
 Holds (in-cell M X Y i j Q t) = Is t (CellPoint M X Y i j Q)
 
 -- ---- the table
@@ -79,6 +84,10 @@ pointFigures =
     ∷ on (edge rising rising ∷ edge uneven rising ∷ []) (point (over (negsuc 13532) 124) (over (pos 64) 124))
     ∷ on (edge rising rising ∷ edge uneven rising ∷ []) (spot (pos 5001) (pos 8))
     ∷ on (edge rising uneven ∷ []) (spot (pos 0) (pos 17))
+    -- where the same edge would be at 2 and at −1
+    ∷ off (edge rising rising ∷ []) (spot (pos 64) (pos 64))
+    ∷ off (edge rising rising ∷ []) (spot (negsuc 7) (negsuc 7))
+    ∷ off [] (spot (pos 0) (pos 0))
     -- a cell of side 4 in column 2 and row 1, from (−3, 5): x from 5 to 9, y from 9 to 13. Its corners, and a little beyond each side
     ∷ in-cell 2 (negsuc 2) (pos 5) 2 1 (spot (pos 5) (pos 9)) true
     ∷ in-cell 2 (negsuc 2) (pos 5) 2 1 (spot (pos 9) (pos 9)) true
@@ -92,6 +101,43 @@ pointFigures =
     ∷ []
 
 -- ---- the statement
+-- an edge goes no farther than its ends: 8·t³ with t = u/d from 0 to 1
+apart-from-last : (z b u w : ℤ) → z *ℤ w ^ℤ 3 +ℤ pos 3 *ℤ z *ℤ u *ℤ w ^ℤ 2 +ℤ pos 3 *ℤ z *ℤ u ^ℤ 2 *ℤ w +ℤ b *ℤ u ^ℤ 3 ≡ z *ℤ (w ^ℤ 3 +ℤ pos 3 *ℤ u *ℤ w ^ℤ 2 +ℤ pos 3 *ℤ u ^ℤ 2 *ℤ w) +ℤ b *ℤ (u *ℤ u *ℤ u)
+apart-from-last z b u w = name₄ z b u w λ σ p q r s. simp (p, q, r, s, reify, σ) (close σ _ _ ok)
+
+no-more-than : (k c : ℤ) → pos 0 *ℤ k +ℤ pos 8 *ℤ c ≡ pos 8 *ℤ c
+no-more-than k c = name₂ k c λ σ p q. simp (p, q, reify, σ) (close σ _ _ ok)
+
+eight : (u w : ℤ) → bernstein rising u w ≡ pos 8 *ℤ (u *ℤ u *ℤ u)
+eight u w = apart-from-last (pos 0) (pos 8) u w ∙ no-more-than (w ^ℤ 3 +ℤ pos 3 *ℤ u *ℤ w ^ℤ 2 +ℤ pos 3 *ℤ u ^ℤ 2 *ℤ w) (u *ℤ u *ℤ u)
+
+from-0 : (u d : ℤ) → pos 0 *ℤ d ≼ u *ℤ pos 1 → pos 0 ≼ u
+from-0 u d = name₂ u d λ σ p q. simp (p, q, reify, σ) (omega zarith)
+
+to-1 : (u d : ℤ) → u *ℤ pos 1 ≼ pos 1 *ℤ d → u ≼ d
+to-1 u d = name₂ u d λ σ p q. simp (p, q, reify, σ) (omega zarith)
+
+too-far : (c k : ℤ) → pos 64 ≡ pos 8 *ℤ c → pos 1 ≡ k → c ≼ k → ⊥
+too-far c k = name₂ c k λ σ p q. simp (p, q, reify, σ) (omega zarith)
+
+too-near : (c : ℤ) → negsuc 7 ≡ pos 8 *ℤ c → pos 0 ≼ c → ⊥
+too-near c = name₁ c λ σ p. simp (p, reify, σ) (omega zarith)
+
+past : Curve (edge rising rising) (spot (pos 64) (pos 64)) → ⊥
+past c =
+    let u : ℤ = c .t .top in
+    let d : ℤ = c .t .low in
+    let h : pos 0 ≼ u = from-0 u d (c .from0) in
+    let k : u ≼ d = to-1 u d (c .to1) in
+    too-far (u *ℤ u *ℤ u) (d *ℤ d *ℤ d) (ap (λ P. P .x .top) (c .here) ∙ eight u (d -ℤ u)) (ap (λ P. P .x .low) (c .here)) (≼-* (h ⊠ h) (≼-* h k h k) h k)
+
+before : Curve (edge rising rising) (spot (negsuc 7) (negsuc 7)) → ⊥
+before c =
+    let u : ℤ = c .t .top in
+    let d : ℤ = c .t .low in
+    let h : pos 0 ≼ u = from-0 u d (c .from0) in
+    too-near (u *ℤ u *ℤ u) (ap (λ P. P .x .top) (c .here) ∙ eight u (d -ℤ u)) (h ⊠ h ⊠ h)
+
 pub points-hold : AllHold Holds pointFigures
 points-hold =
     (refl, refl) and (refl, refl) and (refl, refl) and (refl, refl) and (refl, refl)
@@ -104,6 +150,9 @@ points-hold =
     and inr (inl (record { t = over (pos 2) 4; from0 = record { le = tt }; to1 = record { le = tt }; here = refl }))
     and inr (inl (record { t = whole (pos 1); from0 = record { le = tt }; to1 = record { le = tt }; here = refl }))
     and inl (record { t = whole (pos 0); from0 = record { le = tt }; to1 = record { le = tt }; here = refl })
+    and (λ h. elim h [ inl c ↦ past c | inr n ↦ n ])
+    and (λ h. elim h [ inl c ↦ before c | inr n ↦ n ])
+    and (λ h. h)
     and record { column = record { first = record { le = tt }; last = record { le = tt } }; row = record { first = record { le = tt }; last = record { le = tt } } }
     and record { column = record { first = record { le = tt }; last = record { le = tt } }; row = record { first = record { le = tt }; last = record { le = tt } } }
     and record { column = record { first = record { le = tt }; last = record { le = tt } }; row = record { first = record { le = tt }; last = record { le = tt } } }
