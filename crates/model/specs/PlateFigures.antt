@@ -37,6 +37,8 @@ pub data Figure : Type 0 where
   letters : Verdict → ℕ → Figure
   -- a job's map, row after row from the lowest
   maps : Job → String → Figure
+  -- the leaves of some trees
+  ends : List Tree → List ℤ → Figure
   -- the least centre of some strips
   least-of : List ℤ → ℤ → Figure
   -- the bounds of a point's distance
@@ -69,6 +71,7 @@ Holds (joins a b c) = join a b ≡ c
 Holds (explores ts a) = exploreAll (λ S. told (S .x .centre)) ts ≡ a
 Holds (letters v b) = letter v ≡ b
 Holds (maps j s) = mapOf j ≡ bytes s
+Holds (ends ts cs) = leavesAll ts ≡ strips cs
 Holds (least-of cs c) = least (λ S. S .x .centre) (strips cs) ≡ c
 Holds (bounds j x y l h) = (lo (forest j) x y ≡ l) × (hi (forest j) x y ≡ h)
 Holds (named j x y e) = Attains (forest j) x y e
@@ -119,6 +122,9 @@ exploreFigures =
     -- an axis (−3, 5) of length 6, rounded up
     ∷ tests (pos 10) here (stripOf (side (pos 28) (negsuc 2) (pos 2)) (side (negsuc 4) (pos 5) (pos 3))) false false false
     ∷ tests (pos 10) here (stripOf (side (pos 27) (negsuc 2) (pos 2)) (side (negsuc 2) (pos 5) (pos 3))) false false true
+    -- an axis (3, −5) and wide boxes
+    ∷ tests (pos 10) here (stripOf (side (negsuc 25) (pos 3) (pos 20)) (side (negsuc 61) (negsuc 4) (pos 30))) false false false
+    ∷ tests (pos 10) here (stripOf (side (negsuc 24) (pos 3) (pos 20)) (side (negsuc 63) (negsuc 4) (pos 30))) false false true
     -- each test alone gives the answer
     ∷ says (pos 50) here (stripOf (side (pos 63) (negsuc 10) (pos 5)) (side (negsuc 90) (pos 14) (pos 10))) maybe
     ∷ says (pos 51) here (stripOf (side (pos 17) (negsuc 10) (pos 5)) (side (negsuc 10) (pos 14) (pos 10))) inside
@@ -159,6 +165,7 @@ plateFigures =
     ∷ maps two "IIDDDDDICDDICCDD"
     -- the last cell of the lowest row is clear across the axis alone; with a reach of nothing others would be
     ∷ maps slanted "DDDCDDDDDIDDDDDD"
+    ∷ ends (node (at (pos 3)) I A ∷ long (at (pos 4)) ∷ M ∷ []) (pos 0 ∷ pos 1 ∷ pos 4 ∷ pos 2 ∷ [])
     ∷ least-of [] (pos 0)
     ∷ least-of (pos 4 ∷ []) (pos 4)
     ∷ least-of (pos 4 ∷ pos 5 ∷ pos 6 ∷ []) (pos 4)
@@ -191,6 +198,7 @@ unfolding isInside isAway₁ isAway₂ absℤ root rootBy explore exploreAll
 exploring-holds =
     (refl, refl, refl) and (refl, refl, refl) and (refl, refl, refl) and (refl, refl, refl) and (refl, refl, refl) and (refl, refl, refl) and (refl, refl, refl)
     and (refl, refl, refl) and (refl, refl, refl) and (refl, refl, refl) and (refl, refl, refl) and (refl, refl, refl) and (refl, refl, refl) and (refl, refl, refl)
+    and (refl, refl, refl) and (refl, refl, refl)
     and refl and refl and refl and refl
     and refl and refl and refl and refl and refl and refl and refl and refl and refl
     and refl and refl and refl and refl and refl and refl and refl and refl and refl and refl and refl
@@ -199,7 +207,7 @@ exploring-holds =
 pub plates-hold : AllHold Holds plateFigures
 unfolding mapOf mapped rowMajor table drawn exploreAll explore isInside isAway₁ isAway₂ absℤ root rootBy strip sideAt tree pieces forest outline edgesFrom leaves leavesAll leavesAt least
 plates-hold =
-    refl and refl and refl and refl and refl and refl and refl and refl and refl and refl and refl and refl
+    refl and refl and refl and refl and refl and refl and refl and refl and refl and refl and refl and refl and refl
     and (refl, refl) and inl refl and apart (pos 15496) (pos 6856) tt and (refl, refl) and apart (pos 42632) (pos 1480) tt and inl refl and (λ h. h) and inl refl and inl refl
     and (refl, refl) and (refl, refl) and (refl, refl)
     and tt

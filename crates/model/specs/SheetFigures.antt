@@ -5,7 +5,7 @@ use mathlib.Core.List.{List, [], _∷_, _++_}
 use Prim.Native.Nat.{ℕ, zero, suc}
 use Prim.Native.String.{String}
 use lib.IntN.{ℤ, pos, negsuc}
-use lib.ListN.{replicate}
+use lib.ListN.{getD, replicate}
 use Rattle.model.specs.declared.Job.{Job}
 use Rattle.model.specs.declared.Read.{Read}
 use Rattle.model.specs.Jobs.{between, coordinate, isZero, placed, counted, ranged, celled, judge}
@@ -14,7 +14,7 @@ use Rattle.model.specs.Bytes.{Got, got, none, bytes, digit}
 use Rattle.model.specs.Numbers.{decimal, text, moreDigits, natural, number}
 use Rattle.model.specs.Forms.{writeForm, byte, readForm}
 use Rattle.model.specs.Layouts.{Section, section, Line, Lines, plain, writeLine, writeLines, writeAll, readLine, readLines, readAll}
-use Rattle.model.specs.Sheets.{jobForm, plateForm, cellForm, reachForm, grainForm, edgeForm, endForm, tailLayout, layout, same, stated, edgeLines, sheetOf, joined, fit, jobOf, ended, readSheet}
+use Rattle.model.specs.Sheets.{jobForm, plateForm, cellForm, reachForm, grainForm, edgeForm, endForm, tailLayout, layout, jobAt, plateAt, cellAt, reachAt, grainAt, edgesAt, endAt, same, stated, edgeLines, sheetOf, joined, fit, jobOf, ended, readSheet}
 use Rattle.model.specs.Entries.{readAnswer, read}
 use Rattle.model.specs.FigureTables.{AllHold, _and_, job}
 
@@ -29,6 +29,8 @@ pub data Figure : Type 0 where
   -- a layout, a text, the lines at its front and what is left
   reads-lines : List Section → String → List Lines → String → Figure
   no-lines : List Section → String → Figure
+  -- the form of a place of the sheet's layout, with the least and the most lines of it
+  stands : ℕ → List ℕ → ℕ → ℕ → Figure
   -- the job of some lines
   lines-job : List Lines → Job → Figure
   -- a sheet's bytes and what reading them answers
@@ -47,6 +49,7 @@ Holds (no-number s) = number (bytes s) ≡ none
 Holds (writes-lines ss gs s) = writeAll ss gs ≡ bytes s
 Holds (reads-lines ss s gs t) = readAll ss [] (bytes s) ≡ got gs (bytes t)
 Holds (no-lines ss s) = readAll ss [] (bytes s) ≡ none
+Holds (stands k F lo hi) = getD layout k (section [] 0 0) ≡ section (F ∷ []) lo hi
 Holds (lines-job gs j) = jobOf gs ≡ j
 Holds (reads s a) = read s ≡ a
 Holds (reads-refused s k) = read s .refusal ≡ k
@@ -134,8 +137,15 @@ zeros = record { refusal = 1; job = job (pos 0) (pos 0) (pos 0) (pos 0) (pos 0) 
 
 abbrev pub sheetFigures : List Figure
 sheetFigures =
+    stands jobAt jobForm 1 1
+    ∷ stands plateAt plateForm 1 1
+    ∷ stands cellAt cellForm 1 1
+    ∷ stands reachAt reachForm 1 1
+    ∷ stands grainAt grainForm 0 1
+    ∷ stands edgesAt edgeForm 0 8192
+    ∷ stands endAt endForm 1 1
     -- the grain on either side of the one that is not written
-    sheet-of (twoSheet (pos 9)) "(job\n(plate 11 -12 6)\n(cell 3)\n(reach 14)\n(grain 9)\n(edge (1 2) (3 4) (5 6) (7 8))\n(edge (-1 -2) (-3 -4) (-5 -6) (-7 -8))\n)\n"
+    ∷ sheet-of (twoSheet (pos 9)) "(job\n(plate 11 -12 6)\n(cell 3)\n(reach 14)\n(grain 9)\n(edge (1 2) (3 4) (5 6) (7 8))\n(edge (-1 -2) (-3 -4) (-5 -6) (-7 -8))\n)\n"
     ∷ sheet-of (twoSheet (pos 10)) "(job\n(plate 11 -12 6)\n(cell 3)\n(reach 14)\n(edge (1 2) (3 4) (5 6) (7 8))\n(edge (-1 -2) (-3 -4) (-5 -6) (-7 -8))\n)\n"
     ∷ sheet-of (twoSheet (pos 11)) "(job\n(plate 11 -12 6)\n(cell 3)\n(reach 14)\n(grain 11)\n(edge (1 2) (3 4) (5 6) (7 8))\n(edge (-1 -2) (-3 -4) (-5 -6) (-7 -8))\n)\n"
     -- a grain that no accepted job has is written too
@@ -186,6 +196,7 @@ layouts-hold =
 pub sheets-hold : AllHold Holds sheetFigures
 unfolding text decimal number natural moreDigits digit writeAll writeLines writeLine writeForm readAll readLines readLine readForm byte times layout tailLayout jobForm plateForm cellForm reachForm grainForm edgeForm endForm same stated edgeLines sheetOf joined fit ended readSheet read readAnswer accepted judge counted ranged celled between coordinate isZero placed
 sheets-hold =
-    (refl, refl) and (refl, refl) and (refl, refl) and refl and refl and refl and refl and refl and refl and refl and refl and refl and refl and refl and refl and refl
+    refl and refl and refl and refl and refl and refl and refl
+    and (refl, refl) and (refl, refl) and (refl, refl) and refl and refl and refl and refl and refl and refl and refl and refl and refl and refl and refl and refl and refl
     and refl and refl and refl and refl and refl and refl and refl and refl and refl
     and tt
