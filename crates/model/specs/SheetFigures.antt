@@ -14,7 +14,7 @@ use Rattle.model.specs.Bytes.{Got, got, none, bytes, digit}
 use Rattle.model.specs.Numbers.{decimal, text, moreDigits, natural, number}
 use Rattle.model.specs.Forms.{writeForm, byte, readForm}
 use Rattle.model.specs.Layouts.{Section, section, Line, Lines, plain, writeLine, writeLines, writeAll, readLine, readLines, readAll}
-use Rattle.model.specs.Sheets.{jobForm, plateForm, cellForm, reachForm, grainForm, edgeForm, endForm, tailLayout, layout, jobAt, plateAt, cellAt, reachAt, grainAt, edgesAt, endAt, same, stated, edgeLines, sheetOf, joined, fit, jobOf, ended, readSheet}
+use Rattle.model.specs.Sheets.{jobForm, plateForm, cellForm, reachForm, grainForm, edgeForm, endForm, tailLayout, layout, jobAt, plateAt, cellAt, reachAt, grainAt, edgesAt, endAt, same, stated, edgeLines, linesOf, sheetOf, joined, fit, jobOf, ended, readSheet}
 use Rattle.model.specs.Entries.{readAnswer, read}
 use Rattle.model.specs.FigureTables.{AllHold, _and_, job}
 
@@ -39,6 +39,8 @@ pub data Figure : Type 0 where
   reads-refused : List ℕ → ℕ → Figure
   -- a job and its sheet, which reads back as the job
   sheet-of : Job → String → Figure
+  -- a job and the lines of its sheet
+  job-lines : Job → List Lines → Figure
   -- a job and its sheet alone
   writes-sheet : Job → String → Figure
 
@@ -54,6 +56,7 @@ Holds (lines-job gs j) = jobOf gs ≡ j
 Holds (reads s a) = read s ≡ a
 Holds (reads-refused s k) = read s .refusal ≡ k
 Holds (sheet-of j s) = (sheetOf j ≡ bytes s) × (read (bytes s) ≡ record { refusal = 0; job = j })
+Holds (job-lines j gs) = linesOf j ≡ gs
 Holds (writes-sheet j s) = sheetOf j ≡ bytes s
 
 -- ---- numbers
@@ -148,6 +151,11 @@ sheetFigures =
     ∷ sheet-of (twoSheet (pos 9)) "(job\n(plate 11 -12 6)\n(cell 3)\n(reach 14)\n(grain 9)\n(edge (1 2) (3 4) (5 6) (7 8))\n(edge (-1 -2) (-3 -4) (-5 -6) (-7 -8))\n)\n"
     ∷ sheet-of (twoSheet (pos 10)) "(job\n(plate 11 -12 6)\n(cell 3)\n(reach 14)\n(edge (1 2) (3 4) (5 6) (7 8))\n(edge (-1 -2) (-3 -4) (-5 -6) (-7 -8))\n)\n"
     ∷ sheet-of (twoSheet (pos 11)) "(job\n(plate 11 -12 6)\n(cell 3)\n(reach 14)\n(grain 11)\n(edge (1 2) (3 4) (5 6) (7 8))\n(edge (-1 -2) (-3 -4) (-5 -6) (-7 -8))\n)\n"
+    -- each line has its own numbers and no more
+    ∷ job-lines (twoSheet (pos 10))
+    ((plain [] ∷ []) ∷ (plain (pos 11 ∷ negsuc 11 ∷ pos 6 ∷ []) ∷ []) ∷ (plain (pos 3 ∷ []) ∷ []) ∷ (plain (pos 14 ∷ []) ∷ []) ∷ []
+    ∷ (plain (pos 1 ∷ pos 2 ∷ pos 3 ∷ pos 4 ∷ pos 5 ∷ pos 6 ∷ pos 7 ∷ pos 8 ∷ []) ∷ plain (negsuc 0 ∷ negsuc 1 ∷ negsuc 2 ∷ negsuc 3 ∷ negsuc 4 ∷ negsuc 5 ∷ negsuc 6 ∷ negsuc 7 ∷ []) ∷ [])
+    ∷ (plain [] ∷ []) ∷ [])
     -- a grain that no accepted job has is written too
     ∷ writes-sheet (job (pos 0) (pos 0) (pos 0) (pos 0) (pos 0) (negsuc 9) 0 []) "(job\n(plate 0 0 0)\n(cell 0)\n(reach 0)\n(grain -10)\n)\n"
     -- the default grain may be written
@@ -197,6 +205,6 @@ pub sheets-hold : AllHold Holds sheetFigures
 unfolding text decimal number natural moreDigits digit writeAll writeLines writeLine writeForm readAll readLines readLine readForm byte times layout tailLayout jobForm plateForm cellForm reachForm grainForm edgeForm endForm same stated edgeLines sheetOf joined fit ended readSheet read readAnswer accepted judge counted ranged celled between coordinate isZero placed
 sheets-hold =
     refl and refl and refl and refl and refl and refl and refl
-    and (refl, refl) and (refl, refl) and (refl, refl) and refl and refl and refl and refl and refl and refl and refl and refl and refl and refl and refl and refl and refl
+    and (refl, refl) and (refl, refl) and (refl, refl) and refl and refl and refl and refl and refl and refl and refl and refl and refl and refl and refl and refl and refl and refl
     and refl and refl and refl and refl and refl and refl and refl and refl and refl
     and tt
