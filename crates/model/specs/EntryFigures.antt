@@ -135,6 +135,10 @@ pointFigures =
     ∷ point-refused sound (pos 0) (pos 0) (replicate 6 (pos 5)) 6
     ∷ point-refused sound (pos 0) (pos 0) (replicate 7 (pos 5)) 8
     ∷ point-of sound (pos 3) (pos 4) (soundStore ++ (pos 5 ∷ [])) (record { refusal = 0; lo = pos 5960; hi = pos 6856; edge = 0 })
+    -- the nearer of two edges, where x and y exchanged would name the other
+    ∷ point-of (job (pos 0) (pos 0) (pos 1) (pos 0) (pos 9) (pos 10) 2 (replicate 8 (pos 0) ++ (pos 10 ∷ pos 7 ∷ pos 10 ∷ pos 7 ∷ pos 10 ∷ pos 7 ∷ pos 10 ∷ pos 7 ∷ []))) (pos 9) (pos 1)
+    (soundStore ++ (pos 160 ∷ pos 112 ∷ pos 0 ∷ pos 0 ∷ pos 2 ∷ pos 2 ∷ pos 1 ∷ []))
+    (record { refusal = 0; lo = pos 9032; hi = pos 9928; edge = 1 })
     ∷ point-of sound off (pos 4) soundStore (refused 3)
     ∷ point-of sound (pos 3) (pos 4) [] (refused 6)
     ∷ point-of sound (pos 3) (pos 4) (replicate 7 (pos 2)) (refused 8)
@@ -172,6 +176,7 @@ pub asking-holds : AllHold Holds pointFigures
 unfolding pointRefusal accepted counted ranged celled between coordinate isZero placed forest outline edgesFrom sideAt strip absℤ tree pieces begins same leaves leavesAll leavesAt least
 asking-holds =
     refl and refl and refl and refl and refl and refl and refl and refl and refl and refl and refl and refl and refl
+    and (record { refusal-is = refl; lo-is = refl; hi-is = refl; edge-is = inl refl })
     and (record { refusal-is = refl; lo-is = refl; hi-is = refl; edge-is = inl refl })
     and (record { refusal-is = refl; lo-is = refl; hi-is = refl; edge-is = refl })
     and (record { refusal-is = refl; lo-is = refl; hi-is = refl; edge-is = refl })
