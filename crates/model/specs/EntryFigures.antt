@@ -8,9 +8,8 @@ use Prim.Native.Nat.{ℕ}
 use Prim.Native.String.{String}
 use lib.IntN.{ℤ, pos, negsuc}
 use lib.ListN.{length, take, replicate}
-use Rattle.sequences.specs.Tables.{table}
-use Rattle.sequences.specs.RowMajor.{rowMajor}
-use Rattle.integers.specs.Absolute.{absℤ}
+use Rattle.basics.specs.Lists.{table, rowMajor}
+use Rattle.basics.specs.Numbers.{absℤ}
 use Rattle.model.specs.declared.Job.{Job}
 use Rattle.model.specs.declared.Written.{Written}
 use Rattle.model.specs.declared.Map.{Map}

@@ -9,10 +9,9 @@ use Prim.Native.String.{String}
 use lib.Dec.{T}
 use lib.IntN.{ℤ, pos, negsuc}
 use lib.Signed.{ltZ, ltZ-yes, <ℤ-irrefl}
-use Rattle.integers.specs.Order.{_≺_}
-use Rattle.sequences.specs.Tables.{table}
-use Rattle.sequences.specs.RowMajor.{rowMajor}
-use Rattle.integers.specs.Absolute.{absℤ}
+use Rattle.basics.specs.Orders.{_≺_}
+use Rattle.basics.specs.Lists.{table, rowMajor}
+use Rattle.basics.specs.Numbers.{absℤ}
 use Rattle.model.specs.declared.Job.{Job}
 use Rattle.model.specs.Jobs.{edgesFrom, outline}
 use Rattle.model.specs.Bytes.{bytes}
@@ -20,7 +19,7 @@ use Rattle.model.specs.Strips.{Side, Strip, sideAt, strip}
 use Rattle.model.specs.Trees.{Tree, leaf, long, node, pieces, tree}
 use Rattle.model.specs.Store.{forest}
 use Rattle.model.specs.Roots.{rootBy, root}
-use Rattle.model.specs.Explore.{Cell, Answer, inside, away, maybe, isInside, isAway₁, isAway₂, verdict, join, settle, explore, exploreAll}
+use Rattle.model.specs.Explore.{Cell, Answer, inside, away, maybe, isInside, isAway₁, isAway₂, judged, join, settle, explore, exploreAll}
 use Rattle.model.specs.Plates.{Verdict, clear, within, doubtful, mixed, letter, drawn, mapped, mapOf}
 use Rattle.model.specs.Distance.{leaves, leavesAll, leavesAt, least, lo, hi, Attains}
 use Rattle.model.specs.FigureTables.{AllHold, _and_, side, stripOf, job}
@@ -66,7 +65,7 @@ strips (c ∷ cs) = at c ∷ strips cs
 
 abbrev pub Holds : Figure → Type 0
 Holds (tests r c S i a b) = (isInside r c S ≡ i) × (isAway₁ r c S ≡ a) × (isAway₂ r c S ≡ b)
-Holds (says r c S a) = verdict r c S ≡ a
+Holds (says r c S a) = judged r c S ≡ a
 Holds (joins a b c) = join a b ≡ c
 Holds (explores ts a) = exploreAll (λ S. told (S .x .centre)) ts ≡ a
 Holds (letters v b) = letter v ≡ b

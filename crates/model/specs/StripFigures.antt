@@ -4,7 +4,7 @@ use mathlib.Core.Bool.{Bool, true, false}
 use mathlib.Core.List.{List, [], _∷_, _++_}
 use Prim.Native.Nat.{ℕ}
 use lib.IntN.{ℤ, pos, negsuc}
-use Rattle.integers.specs.Absolute.{absℤ}
+use Rattle.basics.specs.Numbers.{absℤ}
 use Rattle.model.specs.declared.Job.{Job}
 use Rattle.model.specs.Jobs.{Cubic, Edge, edgesFrom, outline}
 use Rattle.model.specs.Strips.{Side, Strip, sideAt, strip, denominator, middle, short}
