@@ -159,6 +159,11 @@ module _ (store : List ℤ) (v : Strip → Answer) (ps : List ℕ) (k a : ℕ) (
   tree-at f = let n = nth store k (f .starts) l in record { tree = n .tree; at = back (n .tree) (n .at) }
 
 -- ---- answers by their numbers
+pub code-few : (a : Answer) → code a ≤ 2
+code-few inside = omega arith
+code-few away = omega arith
+code-few maybe = omega arith
+
 pub is-inside : (a : Answer) (n : ℕ) → n ≡ code a → n ≡ 2 → a ≡ inside
 is-inside inside n e f = refl
 is-inside away n e f = absurd (omega arith)

@@ -50,7 +50,7 @@ abbrev point : (t : ℕ) → tree-bounds-lts.Start (callees t) (tree-bounds-at t
 point t s = pointAt (s .args .x) (s .args .y)
 
 not-one : (t : ℕ) (c : tree-bounds-lts.Else1 (callees t) (tree-bounds-at t) tree-bounds.Post) → natAbs (getD (list t (c .before .before)) countPlace (pos 0)) ≡ 1 → ⊥
-not-one t c e = c .if1 .left (c .before .count-at .ensures ∙ e)
+not-one t c e = omega (arith, c .if1 .left, c .before .count-at .ensures, e)
 
 counts : (t : ℕ) (c : tree-bounds-lts.After-count-at2 (callees t) (tree-bounds-at t) tree-bounds.Post) → Read (list t (c .before .before .before)) (c .count-at2 .result) t
 counts t c = let s = c .before .before .before in read (c .count-at2 .result) t (s .pre .1 .0) (not-one t (c .before)) (c .count-at2 .ensures) (s .pre .0)
@@ -80,7 +80,7 @@ tree-bounds-returns : (t : ℕ) → tree-bounds-lts.Need-returns (callees t) (tr
 tree-bounds-returns t c = λ u e.
     let s = c .before .before .before in
     let r = rw (toZ-ofZ (s .fits .x), toZ-ofZ (s .fits .y)) at (c .leaf-bounds .ensures) in
-    at-leaf (point t s) (c .leaf-bounds .result) (list t s) (sym (c .before .before .count-at .ensures) ∙ c .before .if1 .taken) (r .0) (r .1) u e
+    at-leaf (point t s) (c .leaf-bounds .result) (list t s) (omega (arith, c .before .before .count-at .ensures, c .before .if1 .taken)) (r .0) (r .1) u e
 
 tree-bounds-count-at-requires-2 : (t : ℕ) → tree-bounds-lts.Need-count-at-requires-2 (callees t) (tree-bounds-at t) tree-bounds.Post
 tree-bounds-count-at-requires-2 t c κs = left-counted (split (c .before .before .pre .1 .0) (not-one t c))

@@ -29,7 +29,7 @@ fill-row-requires : tie.Need-fill-row-requires Inv-loop μ-loop
 fill-row-requires c κs =
     let s = c .before .before .before .before in
     let l = c .before .before .loop in
-    (s .pre .0, omega (arith, l .inv .3, s .pre .2, row-end (l .j) (s .args .r + s .args .w) (s .args .n) (omega arith)))
+    (omega (arith, s .pre .0), omega (arith, l .inv .3, s .pre .2, row-end (l .j) (s .args .r + s .args .w) (s .args .n) (omega arith)))
 
 add-j : tie.Need-add-j Inv-loop μ-loop
 add-j c = omega arith

@@ -12,7 +12,7 @@ use lib.ListN.{length, take, getD, length-set}
 use Rattle.model.specs.Explore.{Answer, inside, explore, exploreAll}
 use Rattle.search.specs.Probes.{judgedBy}
 use Rattle.open_edges.specs.Starts.{Starts}
-use Rattle.open_edges.specs.Looked.{Looked, begin, next-away, next-maybe, last-inside, tree-at, finish, is-inside, is-maybe, is-away}
+use Rattle.open_edges.specs.Looked.{code-few, Looked, begin, next-away, next-maybe, last-inside, tree-at, finish, is-inside, is-maybe, is-away}
 use Rattle.open_edges.proofs.explore_open.Statement.{statement}
 use Rattle.open_edges.proofs.explore_open.Tie as tie
 
@@ -91,7 +91,7 @@ loop-again c =
     let s = c .before .before .before .before .before .before in let l = c .before .before .before .before .before .loop in (
       omega (arith, c .before .before .before .before .loop-test .taken),
       omega (arith, l .inv .1),
-      next-maybe (c .before .before .before .before .before .before .args .store .now) (by (c .before .before .before .before .before .before)) (places (c .before .before .before .before .before .before)) (c .before .before .before .before .before .loop .k) (getD (c .before .before .before .before .before .before .args .list .now) (c .before .before .before .before .before .loop .k) 0) (below (c .before .before .before .before)) (read (c .before .before .before .before)) (l .keep) (l .kept) (omega (arith, s .pre .0, c .before .before .before .before .loop-test .taken, l .inv .1, keep-long (c .before .before .before .before .before))) (λ t h. is-maybe (explore (by s) t) (c .before .before .ask .result) (c .before .before .ask .ensures t h) (c .if2 .taken)) (l .inv .2),
+      next-maybe (c .before .before .before .before .before .before .args .store .now) (by (c .before .before .before .before .before .before)) (places (c .before .before .before .before .before .before)) (c .before .before .before .before .before .loop .k) (getD (c .before .before .before .before .before .before .args .list .now) (c .before .before .before .before .before .loop .k) 0) (below (c .before .before .before .before)) (read (c .before .before .before .before)) (l .keep) (l .kept) (omega (arith, s .pre .0, c .before .before .before .before .loop-test .taken, l .inv .1, keep-long (c .before .before .before .before .before))) (λ t h. is-maybe (explore (by s) t) (c .before .before .ask .result) (c .before .before .ask .ensures t h) (omega (arith, c .before .before .ask .ensures t h, code-few (explore (by s) t), c .before .if1 .left, c .if2 .taken))) (l .inv .2),
       length-set (l .keep) (l .kept) _ ∙ l .inv .3,
     )
 
@@ -104,7 +104,7 @@ loop-again-2 c =
     let s = c .before .before .before .before .before .before in let l = c .before .before .before .before .before .loop in (
       omega (arith, c .before .before .before .before .loop-test .taken),
       omega (arith, l .inv .1),
-      next-away (c .before .before .before .before .before .before .args .store .now) (by (c .before .before .before .before .before .before)) (places (c .before .before .before .before .before .before)) (c .before .before .before .before .before .loop .k) (getD (c .before .before .before .before .before .before .args .list .now) (c .before .before .before .before .before .loop .k) 0) (below (c .before .before .before .before)) (read (c .before .before .before .before)) (l .keep) (l .kept) (λ t h. is-away (explore (by s) t) (c .before .before .ask .result) (c .before .before .ask .ensures t h) (c .before .if1 .left) (c .if2 .left)) (l .inv .2),
+      next-away (c .before .before .before .before .before .before .args .store .now) (by (c .before .before .before .before .before .before)) (places (c .before .before .before .before .before .before)) (c .before .before .before .before .before .loop .k) (getD (c .before .before .before .before .before .before .args .list .now) (c .before .before .before .before .before .loop .k) 0) (below (c .before .before .before .before)) (read (c .before .before .before .before)) (l .keep) (l .kept) (λ t h. is-away (explore (by s) t) (c .before .before .ask .result) (c .before .before .ask .ensures t h) (c .before .if1 .left) (λ e. omega (arith, e, c .if2 .left))) (l .inv .2),
       l .inv .3,
     )
 

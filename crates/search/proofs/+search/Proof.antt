@@ -53,10 +53,10 @@ own-is : (t : ℕ) (c : search-lts.After-own (callees t) (search-at t) search′
 own-is t c = c .own .ensures
 
 maybe-is : (t : ℕ) (c : search-lts.Else1 (callees t) (search-at t) search′.Post) → code (by t (c .before .before) (stripIn (list t (c .before .before)))) ≡ 1
-maybe-is t c = sym (own-is t (c .before)) ∙ c .if1 .left
+maybe-is t c = omega (arith, own-is t (c .before), c .if1 .left)
 
 not-one : (t : ℕ) (c : search-lts.Else2 (callees t) (search-at t) search′.Post) → natAbs (getD (list t (c .before .before .before .before)) countPlace (pos 0)) ≡ 1 → ⊥
-not-one t c e = c .if2 .left (c .before .count-at .ensures ∙ e)
+not-one t c e = omega (arith, c .if2 .left, c .before .count-at .ensures, e)
 
 -- what the counts tell
 counts : (t : ℕ) (c : search-lts.After-count-at2 (callees t) (search-at t) search′.Post) → Read (list t (c .before .before .before .before .before)) (c .count-at2 .result) t
@@ -86,7 +86,7 @@ search-count-at-requires : (t : ℕ) → search-lts.Need-count-at-requires (call
 search-count-at-requires t c κs = let s = c .before .before in (front (s .pre .1 .0), counted (s .pre .1 .0))
 
 search-returns-2 : (t : ℕ) → search-lts.Need-returns-2 (callees t) (search-at t) search′.Post
-search-returns-2 t c = λ u f e. let s = c .before .before .before .before in one (by t s) (list t s) (maybe-is t (c .before .before)) (sym (c .before .count-at .ensures) ∙ c .if2 .taken) u e
+search-returns-2 t c = λ u f e. let s = c .before .before .before .before in one (by t s) (list t s) (maybe-is t (c .before .before)) (omega (arith, c .before .count-at .ensures, c .if2 .taken)) u e
 
 search-count-at-requires-2 : (t : ℕ) → search-lts.Need-count-at-requires-2 (callees t) (search-at t) search′.Post
 search-count-at-requires-2 t c κs = left-counted (split (c .before .before .before .before .pre .1 .0) (not-one t c))
