@@ -37,12 +37,16 @@ left-of t s = subtree (s .args .limit) (form (s .args .cx)) (form (s .args .cy))
 abbrev right-of : (t : ℕ) → nodes-of-lts.Start (callees t) (nodes-of-at t) nodes-of.Post → Tree
 right-of t s = subtree (s .args .limit) (form (s .args .cx)) (form (s .args .cy)) (s .args .left - 1) (2 * s .args .n) (2 * s .args .m + 1)
 
+-- there is a halving left
+not-last : (t : ℕ) (c : nodes-of-lts.Else2 (callees t) (nodes-of-at t) nodes-of.Post) → c .before .before .before .args .left ≡ 0 → ⊥
+not-last t c e = omega (arith, c .if2 .left, e)
+
 node-at : (t : ℕ) (c : nodes-of-lts.Else2 (callees t) (nodes-of-at t) nodes-of.Post) → let s = c .before .before .before in
     subtree (s .args .limit) (form (s .args .cx)) (form (s .args .cy)) (s .args .left) (s .args .n) (s .args .m) ≡ node (stripBy (form (s .args .cx)) (form (s .args .cy)) (s .args .n) (s .args .m)) (left-of t s) (right-of t s)
 node-at t c =
     let s = c .before .before .before in
     let e = rw (toZ-ofZ (s .fits .limit), c .before .if1 .left) at (c .before .before .piece-of .ensures .1) in
-    at-node (s .args .limit) (form (s .args .cx)) (form (s .args .cy)) (s .args .left) (s .args .n) (s .args .m) (sym e) (c .if2 .left)
+    at-node (s .args .limit) (form (s .args .cx)) (form (s .args .cy)) (s .args .left) (s .args .n) (s .args .m) (sym e) (not-last t c)
 
 left-is : (t : ℕ) (c : nodes-of-lts.After-nodes-of (callees t) (nodes-of-at t) nodes-of.Post) → c .nodes-of .result ≡ count (left-of t (c .before .before .before .before))
 left-is t c = let s = c .before .before .before .before in rw (toZ-ofZ (s .fits .limit)) at (c .nodes-of .ensures)
@@ -63,7 +67,7 @@ nodes-of-returns-2 : (t : ℕ) → nodes-of-lts.Need-returns-2 (callees t) (node
 nodes-of-returns-2 t c =
     let s = c .before .before .before in
     let e = rw (toZ-ofZ (s .fits .limit), c .before .if1 .left) at (c .before .before .piece-of .ensures .1) in
-    rw (at-long (s .args .limit) (form (s .args .cx)) (form (s .args .cy)) (s .args .left) (s .args .n) (s .args .m) (sym e) (c .if2 .taken))
+    rw (at-long (s .args .limit) (form (s .args .cx)) (form (s .args .cy)) (s .args .left) (s .args .n) (s .args .m) (sym e) (omega (arith, c .if2 .taken)))
 
 nodes-of-sub-nodes-of : (t : ℕ) → nodes-of-lts.Need-sub-nodes-of (callees t) (nodes-of-at t) nodes-of.Post
 nodes-of-sub-nodes-of t c = omega arith
@@ -78,7 +82,7 @@ nodes-of-sub-nodes-of-2 : (t : ℕ) → nodes-of-lts.Need-sub-nodes-of-2 (callee
 nodes-of-sub-nodes-of-2 t c = omega (arith, c .before .before .before .pre .1 .2 .low)
 
 nodes-of-nodes-of-requires : (t : ℕ) → nodes-of-lts.Need-nodes-of-requires (callees t) (nodes-of-at t) nodes-of.Post
-nodes-of-nodes-of-requires t c κs = let s = c .before .before .before in let p = s .pre .1 in (omega (arith, s .pre .0, c .if2 .left), (p .0, p .1, left-half (p .2) (c .if2 .left)))
+nodes-of-nodes-of-requires t c κs = let s = c .before .before .before in let p = s .pre .1 in (omega (arith, s .pre .0, c .if2 .left), (p .0, p .1, left-half (p .2) (not-last t c)))
 
 nodes-of-returns-3 : (t : ℕ) → nodes-of-lts.Need-returns-3 (callees t) (nodes-of-at t) nodes-of.Post
 nodes-of-returns-3 t c =
@@ -99,7 +103,7 @@ nodes-of-add-nodes-of : (t : ℕ) → nodes-of-lts.Need-add-nodes-of (callees t)
 nodes-of-add-nodes-of t c = omega (arith, n-in (c .before .before .before .before .before .pre .1 .2), c .before .before .before .before .before .pre .1 .2 .high)
 
 nodes-of-nodes-of-requires-2 : (t : ℕ) → nodes-of-lts.Need-nodes-of-requires-2 (callees t) (nodes-of-at t) nodes-of.Post
-nodes-of-nodes-of-requires-2 t c κs = let s = c .before .before .before .before .before in let p = s .pre .1 in let z = c .before .before .if2 .left in (omega (arith, s .pre .0, z), (p .0, p .1, right-half (p .2) z))
+nodes-of-nodes-of-requires-2 t c κs = let s = c .before .before .before .before .before in let p = s .pre .1 in let z = not-last t (c .before .before) in (omega (arith, s .pre .0, z), (p .0, p .1, right-half (p .2) z))
 
 nodes-of-returns-4 : (t : ℕ) → nodes-of-lts.Need-returns-4 (callees t) (nodes-of-at t) nodes-of.Post
 nodes-of-returns-4 t c =
@@ -114,7 +118,7 @@ sum-few t c =
     let b = c .before in
     let a = b .before .before in
     let s = a .before .before .before .before in
-    let z = a .before .if2 .left in
+    let z = not-last t (a .before) in
     let p = s .pre .1 .2 in
     let h = few (s .args .limit) (form (s .args .cx)) (form (s .args .cy)) (s .args .left - 1) (2 * s .args .n) (2 * s .args .m - 1) (left-half p z) in
     let k = few (s .args .limit) (form (s .args .cx)) (form (s .args .cy)) (s .args .left - 1) (2 * s .args .n) (2 * s .args .m + 1) (right-half p z) in
