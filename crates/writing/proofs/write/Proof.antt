@@ -1,6 +1,8 @@
 -- `writing::write` meets its contract. Assumes nothing.
 use mathlib.Core.Path.{sym}
+use Prim.Native.Nat.{_≤_}
 use native.Mathlib.Omega.{arith}
+use lib.ListN.{length}
 use lib.Seq.{length-take-le}
 use borrow.Author.Needs.{needs}
 use Rattle.writing.proofs.Sheets as sheets
@@ -26,7 +28,10 @@ array-share-prefix-text : tie.Need-array-share-prefix-text
 array-share-prefix-text c = search needs
 
 slice-aggregate-put-bytes : tie.Need-slice-aggregate-put-bytes
-slice-aggregate-put-bytes c = let r = c .before .before .before .before .put-sheet in sym (length-take-le (r .result) (r .last .0) (omega (arith, r .ensures .1, r .kept .0)))
+slice-aggregate-put-bytes c =
+    let r = c .before .before .before .before .put-sheet in
+    let h : r .result ≤ length (r .last .0) = omega (arith, r .ensures .1, r .kept .0) in
+    search (needs, sym, length-take-le, h)
 
 put-bytes-requires : tie.Need-put-bytes-requires
 put-bytes-requires c κs = search (needs, sheets.made-fits)
