@@ -1,17 +1,16 @@
 // Writes an edge's strip tree in preorder into a lent part of the store.
 use arithmetic::WIDTH;
-use powers::Power;
 use strips::Extent;
+use strips::Shape;
 ghost use mathlib.Core.Path.{_≡_};
 ghost use mathlib.Core.List.{_++_};
 ghost use Prim.Native.Nat.{_*_, _≤_, _<_};
+ghost use lib.IntN.{natAbs};
 ghost use lib.ListN.{length, drop};
 ghost use Rattle.model.specs.Store.{width, size, numbers, flatten};
-ghost use Rattle.ranges.specs.Sizes.{SideSized};
-ghost use Rattle.subtrees.specs.Subtrees.{subtree};
-ghost use Rattle.subtrees.specs.Halving.{Walkable};
-ghost use Rattle.powers.specs.Structs.{form};
-ghost use Rattle.strips.specs.Structs.{side, stripOf};
+ghost use Rattle.ranges.specs.Sizes.{grainMost, SideSized};
+ghost use Rattle.subtrees.specs.Subtrees.{subtree, Walkable};
+ghost use Rattle.strips.specs.Structs.{side, stripOf, stripsOf, ShapeSized};
 
 // writes a node's numbers at the front of s
 fn put(s: &mut [i32], x: Extent, y: Extent, nodes: usize)
@@ -29,20 +28,13 @@ fn put(s: &mut [i32], x: Extent, y: Extent, nodes: usize)
 }
 
 // Writes the piece's subtree at the front of s, and returns its nodes. A node's own numbers come last: only then are they counted.
-pub fn build(
-    s: &mut [i32],
-    cx: Power,
-    cy: Power,
-    left: usize,
-    n: usize,
-    m: usize,
-    limit: i64,
-) -> usize
-    requires ready { ⌜ Walkable limit (form cx) (form cy) left n m (length (now s)) ⌝ }
-    ensures nodes { λ r. ⌜ r ≡ size (subtree limit (form cx) (form cy) left n m) ⌝ }
-    ensures written { λ _. ⌜ now (s .exit) ≡ flatten (subtree limit (form cx) (form cy) left n m) ++ drop (width * size (subtree limit (form cx) (form cy) left n m)) (now (s .entry)) ⌝ }
+pub fn build(s: &mut [i32], shape: Shape, d: usize, k: usize, grain: i64) -> usize
+    requires sizes { ⌜ ShapeSized shape × (natAbs grain ≤ grainMost) ⌝ }
+    requires ready { ⌜ Walkable grain (stripsOf shape) d k (length (now s)) ⌝ }
+    ensures nodes { λ r. ⌜ r ≡ size (subtree grain (stripsOf shape) d k) ⌝ }
+    ensures written { λ _. ⌜ now (s .exit) ≡ flatten (subtree grain (stripsOf shape) d k) ++ drop (width * size (subtree grain (stripsOf shape) d k)) (now (s .entry)) ⌝ }
 {
-    let p = strips::piece_of(cx, cy, n, m, limit);
+    let p = strips::piece_of(shape, d, k, grain);
     let x = p.x;
     let y = p.y;
     let short = p.short;
@@ -50,9 +42,9 @@ pub fn build(
         put(s, x, y, 1);
         return 1;
     }
-    let l = build(&mut s[WIDTH..], cx, cy, left - 1, 2 * n, 2 * m - 1, limit);
+    let l = build(&mut s[WIDTH..], shape, d + 1, 2 * k, grain);
     let mid = WIDTH + WIDTH * l;
-    let r = build(&mut s[mid..], cx, cy, left - 1, 2 * n, 2 * m + 1, limit);
+    let r = build(&mut s[mid..], shape, d + 1, 2 * k + 1, grain);
     let nodes = 1 + l + r;
     put(s, x, y, nodes);
     nodes

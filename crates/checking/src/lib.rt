@@ -1,20 +1,18 @@
 // Does a store begin with an edge's strip tree: compared number by number as the tree is walked, up to the first difference.
 use arithmetic::COUNT;
 use arithmetic::WIDTH;
-use powers::Power;
 use strips::Extent;
+use strips::Shape;
 ghost use mathlib.Core.Path.{_≡_};
 ghost use mathlib.Core.Bool.{false};
 ghost use Prim.Native.Nat.{_*_, _≤_, _<_};
-ghost use lib.IntN.{pos};
+ghost use lib.IntN.{pos, natAbs};
 ghost use lib.ListN.{length, getD};
 ghost use Rattle.model.specs.Store.{width, size};
-ghost use Rattle.ranges.specs.Sizes.{SideSized};
+ghost use Rattle.ranges.specs.Sizes.{grainMost, SideSized};
 ghost use Rattle.subtrees.specs.Preorder.{countPlace, HasSide, HasStrip, Begins};
-ghost use Rattle.subtrees.specs.Subtrees.{subtree};
-ghost use Rattle.subtrees.specs.Halving.{Walkable};
-ghost use Rattle.powers.specs.Structs.{form};
-ghost use Rattle.strips.specs.Structs.{side, stripOf};
+ghost use Rattle.subtrees.specs.Subtrees.{subtree, Walkable};
+ghost use Rattle.strips.specs.Structs.{side, stripOf, stripsOf, ShapeSized};
 ghost use Rattle.checking.specs.Answers.{Unless, Told};
 
 // is number i of s other than v
@@ -60,19 +58,12 @@ fn differs_strip(s: &[i32], x: Extent, y: Extent) -> bool
 }
 
 // the nodes of the piece's subtree if s begins with it, and 0 otherwise
-pub fn begins_with(
-    s: &[i32],
-    cx: Power,
-    cy: Power,
-    left: usize,
-    n: usize,
-    m: usize,
-    limit: i64,
-) -> usize
-    requires ready { ⌜ Walkable limit (form cx) (form cy) left n m (length (now s)) ⌝ }
-    ensures told { λ r. ⌜ Told r (size (subtree limit (form cx) (form cy) left n m)) (Begins (subtree limit (form cx) (form cy) left n m) (now (s .entry))) ⌝ }
+pub fn begins_with(s: &[i32], shape: Shape, d: usize, k: usize, grain: i64) -> usize
+    requires sizes { ⌜ ShapeSized shape × (natAbs grain ≤ grainMost) ⌝ }
+    requires ready { ⌜ Walkable grain (stripsOf shape) d k (length (now s)) ⌝ }
+    ensures told { λ r. ⌜ Told r (size (subtree grain (stripsOf shape) d k)) (Begins (subtree grain (stripsOf shape) d k) (now (s .entry))) ⌝ }
 {
-    let p = strips::piece_of(cx, cy, n, m, limit);
+    let p = strips::piece_of(shape, d, k, grain);
     let x = p.x;
     let y = p.y;
     let short = p.short;
@@ -85,12 +76,12 @@ pub fn begins_with(
         }
         return 1;
     }
-    let l = begins_with(&s[WIDTH..], cx, cy, left - 1, 2 * n, 2 * m - 1, limit);
+    let l = begins_with(&s[WIDTH..], shape, d + 1, 2 * k, grain);
     if l == 0 {
         return 0;
     }
     let mid = WIDTH + WIDTH * l;
-    let r = begins_with(&s[mid..], cx, cy, left - 1, 2 * n, 2 * m + 1, limit);
+    let r = begins_with(&s[mid..], shape, d + 1, 2 * k + 1, grain);
     if r == 0 {
         return 0;
     }

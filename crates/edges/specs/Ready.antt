@@ -7,11 +7,12 @@ use lib.IntN.{ℤ, natAbs}
 use Rattle.model.specs.Jobs.{edgeAt}
 use Rattle.model.specs.Trees.{tree, isLong}
 use Rattle.model.specs.Store.{width, size}
+use Rattle.ranges.specs.Sizes.{grainMost}
 use Rattle.ranges.specs.Jobs.{Limits}
 
 pub record Ready (g : ℤ) (l : List ℤ) (e m : ℕ) : Type 0 where
   pub limits : Limits l
   pub within : e < 64
-  pub grain-size : natAbs g ≤ 100000
+  pub grain-size : natAbs g ≤ grainMost
   pub short : isLong (tree g (edgeAt l e)) ≡ false
   pub fits : width * size (tree g (edgeAt l e)) ≤ m

@@ -7,17 +7,19 @@ use Rattle.basics.specs.Numbers.{_^ℤ_, absℤ, nearest}
 use Rattle.model.specs.Jobs.{Cubic, Edge}
 
 -- ---- the power form: a coordinate is c0 + c1·t + c2·t² + c3·t³
-abbrev pub c0 : Cubic → ℤ
-c0 b = b .b0
+pub record PowerForm : Type 0 where
+  pub c0 : ℤ
+  pub c1 : ℤ
+  pub c2 : ℤ
+  pub c3 : ℤ
 
-abbrev pub c1 : Cubic → ℤ
-c1 b = pos 3 *ℤ (b .b1 -ℤ b .b0)
-
-abbrev pub c2 : Cubic → ℤ
-c2 b = pos 3 *ℤ (b .b0 -ℤ pos 2 *ℤ b .b1 +ℤ b .b2)
-
-abbrev pub c3 : Cubic → ℤ
-c3 b = b .b3 -ℤ pos 3 *ℤ b .b2 +ℤ pos 3 *ℤ b .b1 -ℤ b .b0
+abbrev pub powerOf : Cubic → PowerForm
+powerOf b = record {
+  c0 = b .b0;
+  c1 = pos 3 *ℤ (b .b1 -ℤ b .b0);
+  c2 = pos 3 *ℤ (b .b0 -ℤ pos 2 *ℤ b .b1 +ℤ b .b2);
+  c3 = b .b3 -ℤ pos 3 *ℤ b .b2 +ℤ pos 3 *ℤ b .b1 -ℤ b .b0;
+}
 
 -- ---- pieces: at depth d an edge has 2^d of them, and piece k is where t = (m + e)/N with N and m as here and the noise symbol e from −1 to 1
 abbrev pub denominator : ℕ → ℕ
@@ -27,17 +29,17 @@ abbrev pub middle : ℕ → ℕ
 middle k = 2 * k + 1
 
 -- N³ times the coordinate is a0 + a1·e + a2·e² + a3·e³
-abbrev pub a0 : Cubic → ℤ → ℤ → ℤ
-a0 b N m = c0 b *ℤ N ^ℤ 3 +ℤ c1 b *ℤ N ^ℤ 2 *ℤ m +ℤ c2 b *ℤ N *ℤ m ^ℤ 2 +ℤ c3 b *ℤ m ^ℤ 3
+abbrev pub a0 : PowerForm → ℤ → ℤ → ℤ
+a0 c N m = c .c0 *ℤ N ^ℤ 3 +ℤ c .c1 *ℤ N ^ℤ 2 *ℤ m +ℤ c .c2 *ℤ N *ℤ m ^ℤ 2 +ℤ c .c3 *ℤ m ^ℤ 3
 
-abbrev pub a1 : Cubic → ℤ → ℤ → ℤ
-a1 b N m = c1 b *ℤ N ^ℤ 2 +ℤ pos 2 *ℤ c2 b *ℤ N *ℤ m +ℤ pos 3 *ℤ c3 b *ℤ m ^ℤ 2
+abbrev pub a1 : PowerForm → ℤ → ℤ → ℤ
+a1 c N m = c .c1 *ℤ N ^ℤ 2 +ℤ pos 2 *ℤ c .c2 *ℤ N *ℤ m +ℤ pos 3 *ℤ c .c3 *ℤ m ^ℤ 2
 
-abbrev pub a2 : Cubic → ℤ → ℤ → ℤ
-a2 b N m = c2 b *ℤ N +ℤ pos 3 *ℤ c3 b *ℤ m
+abbrev pub a2 : PowerForm → ℤ → ℤ → ℤ
+a2 c N m = c .c2 *ℤ N +ℤ pos 3 *ℤ c .c3 *ℤ m
 
-abbrev pub a3 : Cubic → ℤ
-a3 b = c3 b
+abbrev pub a3 : PowerForm → ℤ
+a3 c = c .c3
 
 -- ---- quotients go to the nearest whole number, a half toward plus infinity, below zero too
 abbrev pub quotient : ℤ → ℕ → ℤ
@@ -53,21 +55,33 @@ pub record Strip : Type 0 where
   pub x : Side
   pub y : Side
 
--- With e² = 1/2 + (a new symbol)/2 and e³ = (3/4)·e + (another)/4, sixteen times the coordinate has these four coefficients. Each is
--- rounded, by at most 1/2; the box is padded by 2, which covers all four roundings.
-unfoldable pub sideAt : Cubic → ℕ → ℕ → Side
-sideAt b n m =
-    let N : ℤ = pos n in
-    let M : ℤ = pos m in
-    record {
-      centre = quotient (pos 16 *ℤ a0 b N M +ℤ pos 8 *ℤ a2 b N M) (n * n * n);
-      axis = quotient (pos 16 *ℤ a1 b N M +ℤ pos 12 *ℤ a3 b) (n * n * n);
-      box = absℤ (quotient (pos 8 *ℤ a2 b N M) (n * n * n)) +ℤ absℤ (quotient (pos 4 *ℤ a3 b) (n * n * n)) +ℤ pos 2;
-    }
+-- With e² = 1/2 + (a new symbol)/2 and e³ = (3/4)·e + (another)/4, sixteen times the coordinate has four coefficients over N³, which is k
+-- here. Each is rounded, by at most 1/2; the box is padded by 2, which covers all four roundings.
+abbrev pub centreOf : PowerForm → ℤ → ℤ → ℕ → ℤ
+centreOf c N m k = quotient (pos 16 *ℤ a0 c N m +ℤ pos 8 *ℤ a2 c N m) k
+
+abbrev pub axisOf : PowerForm → ℤ → ℤ → ℕ → ℤ
+axisOf c N m k = quotient (pos 16 *ℤ a1 c N m +ℤ pos 12 *ℤ a3 c) k
+
+abbrev pub secondOf : PowerForm → ℤ → ℤ → ℕ → ℤ
+secondOf c N m k = quotient (pos 8 *ℤ a2 c N m) k
+
+abbrev pub thirdOf : PowerForm → ℕ → ℤ
+thirdOf c k = quotient (pos 4 *ℤ a3 c) k
+
+abbrev pub boxOf : PowerForm → ℤ → ℤ → ℕ → ℤ
+boxOf c N m k = absℤ (secondOf c N m k) +ℤ absℤ (thirdOf c k) +ℤ pos 2
+
+unfoldable pub sideAt : PowerForm → ℕ → ℕ → Side
+sideAt c n m = record {
+  centre = centreOf c (pos n) (pos m) (n * n * n);
+  axis = axisOf c (pos n) (pos m) (n * n * n);
+  box = boxOf c (pos n) (pos m) (n * n * n);
+}
 
 -- the strip of piece k of depth d. Both coordinates have the same e: that keeps the slant
 unfoldable pub strip : Edge → ℕ → ℕ → Strip
-strip e d k = record { x = sideAt (e .x) (denominator d) (middle k); y = sideAt (e .y) (denominator d) (middle k) }
+strip e d k = record { x = sideAt (powerOf (e .x)) (denominator d) (middle k); y = sideAt (powerOf (e .y)) (denominator d) (middle k) }
 
 -- a strip is short where its upright box reaches at most a grain T from its centre, either way
 abbrev pub fits : ℤ → Side → Bool

@@ -12,17 +12,20 @@ pub data Tree : Type 0 where
   long : Strip → Tree
   node : Strip → Tree → Tree → Tree
 
--- the tree of piece k of depth d, which may still be halved `left` times
-unfoldable pub pieces : ℤ → Edge → ℕ → ℕ → ℕ → Tree
-pieces T e zero d k = elim (short T (strip e d k)) [ true ↦ leaf (strip e d k) | false ↦ long (strip e d k) ]
-pieces T e (suc left) d k = elim (short T (strip e d k)) [
-  | true ↦ leaf (strip e d k)
-  | false ↦ node (strip e d k) (pieces T e left (d + 1) (2 * k)) (pieces T e left (d + 1) (2 * k + 1))
+-- the tree of piece k of depth d, which may still be halved `left` times; s has the strip of each piece of each depth
+unfoldable pub pieces : ℤ → (ℕ → ℕ → Strip) → ℕ → ℕ → ℕ → Tree
+pieces T s zero d k = elim (short T (s d k)) [ true ↦ leaf (s d k) | false ↦ long (s d k) ]
+pieces T s (suc left) d k = elim (short T (s d k)) [
+  | true ↦ leaf (s d k)
+  | false ↦ node (s d k) (pieces T s left (d + 1) (2 * k)) (pieces T s left (d + 1) (2 * k + 1))
 ]
 
--- an edge is halved to depth 10 at most
+-- how often an edge may be halved
+abbrev pub deepest : ℕ
+deepest = 10
+
 unfoldable pub tree : ℤ → Edge → Tree
-tree T e = pieces T e 10 0 0
+tree T e = pieces T (strip e) deepest 0 0
 
 abbrev pub trees : ℤ → List Edge → List Tree
 trees T [] = []

@@ -5,20 +5,21 @@ use lib.IntN.{ℤ, natAbs}
 use mir.Syntax.{w64}
 use mir.Val.{SFits}
 use Rattle.integers.specs.Signed.{Made, arg, held}
-use Rattle.ranges.specs.PowerForm.{Form, FormSized}
+use Rattle.model.specs.Strips.{PowerForm}
+use Rattle.ranges.specs.PowerForm.{c0Most, c1Most, c2Most, c3Most, nMost, FormSized}
 
-pub form-eq : {a b c d p q r s : ℤ} → a ≡ p → b ≡ q → c ≡ r → d ≡ s → _≡_ {A = Form} (record { c0 = a; c1 = b; c2 = c; c3 = d }) (record { c0 = p; c1 = q; c2 = r; c3 = s })
+pub form-eq : {a b c d p q r s : ℤ} → a ≡ p → b ≡ q → c ≡ r → d ≡ s → _≡_ {A = PowerForm} (record { c0 = a; c1 = b; c2 = c; c3 = d }) (record { c0 = p; c1 = q; c2 = r; c3 = s })
 form-eq e f g h = cc
 
-pub record Given (f : Form) (N M : ℤ) : Type 0 where
-  pub c0 : Made (f .c0) (f .c0) 1000000
-  pub c1 : Made (f .c1) (f .c1) 6000000
-  pub c2 : Made (f .c2) (f .c2) 12000000
-  pub c3 : Made (f .c3) (f .c3) 8000000
-  pub n : Made N N 2048
-  pub m : Made M M 2048
+pub record Given (f : PowerForm) (N M : ℤ) : Type 0 where
+  pub c0 : Made (f .c0) (f .c0) c0Most
+  pub c1 : Made (f .c1) (f .c1) c1Most
+  pub c2 : Made (f .c2) (f .c2) c2Most
+  pub c3 : Made (f .c3) (f .c3) c3Most
+  pub n : Made N N nMost
+  pub m : Made M M nMost
 
-pub given : (f : Form) (N M : ℤ) → FormSized f → natAbs N ≤ 2048 → natAbs M ≤ 2048 → SFits w64 N → SFits w64 M → Given f N M
+pub given : (f : PowerForm) (N M : ℤ) → FormSized f → natAbs N ≤ nMost → natAbs M ≤ nMost → SFits w64 N → SFits w64 M → Given f N M
 given f N M s n m fn fm = record {
   c0 = held (f .c0) (s .c0-size) tt;
   c1 = held (f .c1) (s .c1-size) tt;

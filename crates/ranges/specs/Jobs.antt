@@ -13,7 +13,7 @@ use Rattle.model.specs.declared.Job.{Job}
 use Rattle.model.specs.Jobs.{between, coordinate, isZero, placed, counted, ranged, judge, cubicAt, edgeAt, edgesFrom, outline}
 use Rattle.model.specs.Store.{forest}
 use Rattle.ranges.specs.Legal.{all-passed, is-counted, is-ranged}
-use Rattle.ranges.specs.Sizes.{ControlSized, EachSized}
+use Rattle.ranges.specs.Sizes.{grainMost, ControlSized, EachSized}
 use Rattle.ranges.specs.Strips.{EdgeSized, EdgesSized, trees-sized}
 
 -- ---- what passing a test says of a size
@@ -53,7 +53,7 @@ edges-sized l h (suc k) e = (edge-sized l h e, edges-sized l h k (e + 1))
 -- ---- a grain in range
 pub record GrainSized (t : ℤ) : Type 0 where
   pub least-grain : 1 ≤ natAbs t
-  pub grain-size : natAbs t ≤ 100000
+  pub grain-size : natAbs t ≤ grainMost
   pub grain-above : T (nonNeg t)
 
 grain-in : (t : ℤ) → between (pos 1) (pos 100000) t ≡ true → GrainSized t

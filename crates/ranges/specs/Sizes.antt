@@ -2,7 +2,7 @@
 -- and still small enough that no step of a search leaves 64 bits: with |w| ≤ 2^30, |axis| ≤ 2^29 and box ≤ 2^27 the cross product stays
 -- below 2^61, p² + q² below 2^60 and the sum of squares of the inside test below 2^63. Assumes nothing.
 use mathlib.Core.List.{List, [], _∷_}
-use Prim.Native.Nat.{_≤_}
+use Prim.Native.Nat.{ℕ, _≤_}
 use lib.Dec.{T}
 use lib.IntN.{natAbs}
 use lib.Signed.{nonNeg}
@@ -11,11 +11,18 @@ use Rattle.model.specs.Strips.{Side, Strip}
 use Rattle.model.specs.Trees.{Tree, leaf, long, node}
 
 -- ---- the control numbers of an edge are coordinates
+abbrev pub controlMost : ℕ
+controlMost = 1000000
+
 pub record ControlSized (b : Cubic) : Type 0 where
-  pub b0-size : natAbs (b .b0) ≤ 1000000
-  pub b1-size : natAbs (b .b1) ≤ 1000000
-  pub b2-size : natAbs (b .b2) ≤ 1000000
-  pub b3-size : natAbs (b .b3) ≤ 1000000
+  pub b0-size : natAbs (b .b0) ≤ controlMost
+  pub b1-size : natAbs (b .b1) ≤ controlMost
+  pub b2-size : natAbs (b .b2) ≤ controlMost
+  pub b3-size : natAbs (b .b3) ≤ controlMost
+
+-- ---- a grain
+abbrev pub grainMost : ℕ
+grainMost = 100000
 
 -- ---- a strip, and every strip of a tree
 pub record SideSized (s : Side) : Type 0 where

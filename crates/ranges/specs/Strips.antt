@@ -1,5 +1,5 @@
 -- Every strip of every piece of an edge, every tree and every job's trees are within the sizes of `Sizes`. Assumes nothing.
-use mathlib.Core.Path.{_≡_, subst}
+use mathlib.Core.Path.{_≡_}
 use mathlib.Core.Bool.{Bool, true, false}
 use mathlib.Core.List.{List, [], _∷_}
 use Prim.Native.Nat.{ℕ, zero, suc, _+_, _*_, _^_, _≤_, _<_}
@@ -9,10 +9,10 @@ use native.Mathlib.Omega.{arith}
 use lib.Pow.{pow-pos}
 use lib.IntN.{ℤ}
 use Rattle.model.specs.Jobs.{Cubic, Edge}
-use Rattle.model.specs.Strips.{denominator, middle, sideAt, strip, short}
-use Rattle.model.specs.Trees.{leaf, long, node, pieces, tree, trees}
+use Rattle.model.specs.Strips.{Strip, denominator, middle, powerOf, sideAt, strip, short}
+use Rattle.model.specs.Trees.{leaf, long, node, pieces, deepest, tree, trees}
 use Rattle.ranges.specs.Sizes.{ControlSized, SideSized, Sized, AllSized, EachSized}
-use Rattle.ranges.specs.PowerForm.{formOf, form-sized, by-sized, side-is}
+use Rattle.ranges.specs.PowerForm.{form-sized, by-sized}
 
 pub record EdgeSized (e : Edge) : Type 0 where
   pub x-control : ControlSized (e .x)
@@ -22,8 +22,8 @@ abbrev pub EdgesSized : List Edge → Type 0
 EdgesSized [] = Unit {0}
 EdgesSized (e ∷ es) = EdgeSized e × EdgesSized es
 
-pub side-sized : (b : Cubic) (n m : ℕ) → ControlSized b → 2 ≤ n → m ≤ n → SideSized (sideAt b n m)
-side-sized b n m h i k = subst SideSized (side-is b n m) (by-sized (formOf b) n m (form-sized b h) i k)
+pub side-sized : (b : Cubic) (n m : ℕ) → ControlSized b → 2 ≤ n → m ≤ n → SideSized (sideAt (powerOf b) n m)
+side-sized b n m h i k = by-sized (powerOf b) n m (form-sized b h) i k
 
 denominator-is : (d : ℕ) → denominator d ≡ 2 * 2 ^ d
 denominator-is d = rw (add-one d, pow-suc 2 d) (omega arith)
@@ -36,28 +36,25 @@ strip-sized e d k h i =
     let m : middle k ≤ denominator d = omega (arith, denominator-is d) in
     record { x-sized = side-sized (e .x) (denominator d) (middle k) (h .x-control) n m; y-sized = side-sized (e .y) (denominator d) (middle k) (h .y-control) n m }
 
-doubled : (d : ℕ) → 2 ^ (d + 1) ≡ 2 * 2 ^ d
-doubled d = denominator-is d
-
-pub pieces-sized : (T : ℤ) (e : Edge) (left d k : ℕ) → EdgeSized e → k < 2 ^ d → AllSized (pieces T e left d k)
+-- of any strips that are sized, piece by piece
+pub pieces-sized : (T : ℤ) (s : ℕ → ℕ → Strip) → ((d k : ℕ) → k < 2 ^ d → Sized (s d k)) → (left d k : ℕ) → k < 2 ^ d → AllSized (pieces T s left d k)
 unfolding pieces
-pieces-sized T e zero d k h i = go (short T (strip e d k)) (strip-sized e d k h i)
+pieces-sized T s h zero d k i = go (short T (s d k)) (h d k i)
   where
-    go : (b : Bool) → Sized (strip e d k) → AllSized (elim b [ true ↦ leaf (strip e d k) | false ↦ long (strip e d k) ])
-    go true s = s
-    go false s = s
-pieces-sized T e (suc left) d k h i =
-    go (short T (strip e d k)) (strip-sized e d k h i)
-    (pieces-sized T e left (d + 1) (2 * k) h (omega (arith, doubled d))) (pieces-sized T e left (d + 1) (2 * k + 1) h (omega (arith, doubled d)))
+    go : (b : Bool) → Sized (s d k) → AllSized (elim b [ true ↦ leaf (s d k) | false ↦ long (s d k) ])
+    go true z = z
+    go false z = z
+pieces-sized T s h (suc left) d k i =
+    go (short T (s d k)) (h d k i) (pieces-sized T s h left (d + 1) (2 * k) (omega (arith, denominator-is d))) (pieces-sized T s h left (d + 1) (2 * k + 1) (omega (arith, denominator-is d)))
   where
-    go : (b : Bool) → Sized (strip e d k) → AllSized (pieces T e left (d + 1) (2 * k)) → AllSized (pieces T e left (d + 1) (2 * k + 1)) →
-        AllSized (elim b [ true ↦ leaf (strip e d k) | false ↦ node (strip e d k) (pieces T e left (d + 1) (2 * k)) (pieces T e left (d + 1) (2 * k + 1)) ])
-    go true s l r = s
-    go false s l r = (s, l, r)
+    go : (b : Bool) → Sized (s d k) → AllSized (pieces T s left (d + 1) (2 * k)) → AllSized (pieces T s left (d + 1) (2 * k + 1)) →
+        AllSized (elim b [ true ↦ leaf (s d k) | false ↦ node (s d k) (pieces T s left (d + 1) (2 * k)) (pieces T s left (d + 1) (2 * k + 1)) ])
+    go true z l r = z
+    go false z l r = (z, l, r)
 
 pub tree-sized : (T : ℤ) (e : Edge) → EdgeSized e → AllSized (tree T e)
 unfolding tree
-tree-sized T e h = pieces-sized T e 10 0 0 h (omega arith)
+tree-sized T e h = pieces-sized T (strip e) (λ d k i. strip-sized e d k h i) deepest 0 0 (omega arith)
 
 pub trees-sized : (T : ℤ) (es : List Edge) → EdgesSized es → EachSized (trees T es)
 trees-sized T [] h = tt

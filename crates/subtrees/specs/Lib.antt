@@ -1,10 +1,9 @@
--- The subtree of a piece as code walks it, and lists that begin with a tree in preorder.
+-- The subtree of a piece, and lists that begin with a tree in preorder.
 pub mod Preorder
 pub mod Begins
 pub mod Halves
 pub mod Fronts
 pub mod Subtrees
-pub mod Halving
 pub mod Counts
 pub mod Sizes
 pub mod Full

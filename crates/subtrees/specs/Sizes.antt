@@ -12,20 +12,20 @@ use Rattle.model.specs.declared.Job.{Job}
 use Rattle.model.specs.Refusals as refused
 use Rattle.model.specs.Refusals.{Checks, check}
 use Rattle.model.specs.Jobs.{own, judge, Edge, edgeAt, edgesFrom, outline}
+use Rattle.model.specs.Strips.{strip}
 use Rattle.model.specs.Trees.{Tree, tree, trees, anyLong}
 use Rattle.model.specs.Store.{width, size, sizes, forest, nodesOf, storeOf, begins}
 use Rattle.model.specs.Plates.{cellsOf}
 use Rattle.model.specs.Entries.{mapRefusal, spotCheck, pointRefusal}
 use Rattle.model.specs.Promises.{StoreRoom}
 use Rattle.ranges.specs.Refusals.{all-pass, passed-all, each-passed, tells}
-use Rattle.ranges.specs.PowerForm.{formOf}
 use Rattle.ranges.specs.Jobs.{JobSized, judge-sized}
 use Rattle.subtrees.specs.Preorder.{size-pos}
-use Rattle.subtrees.specs.Subtrees.{tree-is}
-use Rattle.subtrees.specs.Halving.{few, whole-edge}
+use Rattle.subtrees.specs.Subtrees.{few}
 
 pub few-nodes : (g : ℤ) (e : Edge) → size (tree g e) < 2048
-few-nodes g e = subst (λ (t : Tree). size t < 2048) (tree-is g e) (few (pos 16 *ℤ g) (formOf (e .x)) (formOf (e .y)) 10 2 1 whole-edge)
+unfolding tree
+few-nodes g e = few g (strip e) 0 0
 
 pub few-trees : (g : ℤ) (l : List ℤ) (k e : ℕ) → sizes (trees g (edgesFrom l k e)) ≤ 2047 * k
 unfolding edgesFrom

@@ -1,68 +1,126 @@
--- The subtree of a piece from the power forms, by N and the middle, as code walks it. `tree-is`: it is the model's tree. Assumes nothing.
-use mathlib.Core.Path.{_≡_, refl, ap, ap₂, _∙_}
-use mathlib.Core.Bool.{Bool, true, false, _&&_}
-use Prim.Native.Nat.{ℕ, zero, suc, _+_, _*_, _-_, _^_}
+-- The subtree of a piece, for any strips: what the code's tests say of it, how many nodes it has, and its halves. Assumes nothing.
+use mathlib.Core.Path.{_≡_, refl, sym, ap, _∙_, subst}
+use mathlib.Core.Bool.{Bool, true, false}
+use Prim.Native.Nat.{ℕ, zero, suc, _+_, _*_, _-_, _^_, _≤_, _<_}
 use native.Mathlib.Numerals.{add-one}
-use native.Mathlib.Nat.{pow-suc}
+use native.Mathlib.Nat.{pow-suc, le-refl, mul-le-mul, lt-of-lt-of-le}
 use native.Mathlib.Omega.{arith}
-use lib.IntN.{ℤ, pos, _+ℤ_, _*ℤ_}
-use lib.Signed.{leZ}
-use Rattle.integers.specs.Absolute.{absℤ}
-use Rattle.model.specs.Jobs.{Edge}
-use Rattle.model.specs.Strips.{Side, Strip, denominator, middle, sideAt, strip, short}
-use Rattle.model.specs.Trees.{Tree, leaf, long, node, pieces, tree}
-use Rattle.ranges.specs.PowerForm.{Form, formOf, sideBy}
+use lib.Dec.{T}
+use lib.IntN.{ℤ}
+use lib.Pow.{pow-pos, pow-mono}
+use Rattle.integers.specs.Tests.{or-false}
+use Rattle.model.specs.Strips.{Strip, short}
+use Rattle.model.specs.Trees.{Tree, leaf, long, node, pieces, deepest, isLong}
+use Rattle.model.specs.Store.{width, size}
+use Rattle.subtrees.specs.Preorder.{top}
 
-unfoldable pub stripBy : Form → Form → ℕ → ℕ → Strip
-stripBy fx fy n m = record { x = sideBy fx n m; y = sideBy fy n m }
+-- the subtree of piece k of depth d: a whole edge's tree is that of piece 0 of depth 0
+abbrev pub subtree : ℤ → (ℕ → ℕ → Strip) → ℕ → ℕ → Tree
+subtree T s d k = pieces T s (deepest - d) d k
 
--- short where no upright box half is above the limit; with limit = 16 T it is the model's `short T`
-abbrev pub fitsIn : ℤ → Side → Bool
-fitsIn limit s = leZ (absℤ (s .axis) +ℤ s .box) limit
+-- ---- a piece of an edge
+pub record PieceAt (d k : ℕ) : Type 0 where
+  pub depth : d ≤ deepest
+  pub place : k < 2 ^ d
 
-abbrev pub shortIn : ℤ → Side → Side → Bool
-shortIn limit x y = fitsIn limit x && fitsIn limit y
+pub whole-edge : PieceAt 0 0
+whole-edge = record { depth = omega arith; place = omega arith }
 
-abbrev pub shortBy : ℤ → Form → Form → ℕ → ℕ → Bool
-shortBy limit fx fy n m = shortIn limit (sideBy fx n m) (sideBy fy n m)
+twice : (d : ℕ) → 2 ^ (d + 1) ≡ 2 * 2 ^ d
+twice d = rw (add-one d, pow-suc 2 d) (omega arith)
 
--- the piece with N = n and the middle m, which may still be halved `left` times: its halves have N = 2 n and the middles 2 m − 1, 2 m + 1
-unfoldable pub subtree : ℤ → Form → Form → ℕ → ℕ → ℕ → Tree
-subtree limit fx fy zero n m = elim (shortBy limit fx fy n m) [ true ↦ leaf (stripBy fx fy n m) | false ↦ long (stripBy fx fy n m) ]
-subtree limit fx fy (suc left) n m = elim (shortBy limit fx fy n m) [
-  | true ↦ leaf (stripBy fx fy n m)
-  | false ↦ node (stripBy fx fy n m) (subtree limit fx fy left (2 * n) (2 * m - 1)) (subtree limit fx fy left (2 * n) (2 * m + 1))
-]
+pub left-half : {d k : ℕ} → PieceAt d k → (d ≡ deepest → ⊥) → PieceAt (d + 1) (2 * k)
+left-half {d} {k} p z = record { depth = omega (arith, p .depth, z); place = omega (arith, p .place, twice d) }
 
--- ---- it is the model's
-strip-is : (e : Edge) (d k : ℕ) → stripBy (formOf (e .x)) (formOf (e .y)) (denominator d) (middle k) ≡ strip e d k
-unfolding stripBy strip sideBy sideAt
-strip-is e d k = refl
+pub right-half : {d k : ℕ} → PieceAt d k → (d ≡ deepest → ⊥) → PieceAt (d + 1) (2 * k + 1)
+right-half {d} {k} p z = record { depth = omega (arith, p .depth, z); place = omega (arith, p .place, twice d) }
 
-short-is : (T : ℤ) (e : Edge) (d k : ℕ) → shortBy (pos 16 *ℤ T) (formOf (e .x)) (formOf (e .y)) (denominator d) (middle k) ≡ short T (strip e d k)
-unfolding strip sideBy sideAt
-short-is T e d k = refl
+pub place-most : {d k : ℕ} → PieceAt d k → k < 2 ^ deepest
+place-most {d} p = lt-of-lt-of-le (p .place) (pow-mono {i = d} {j = deepest} (p .depth))
 
-double : (d : ℕ) → 2 * 2 ^ (d + 1) ≡ 2 ^ (d + 1 + 1)
-double d = rw (add-one (d + 1), pow-suc 2 (d + 1)) (omega arith)
+-- ---- the subtree by the tests
+module _ (T : ℤ) (s : ℕ → ℕ → Strip) where
+  abbrev end : ℕ → ℕ → Bool → Tree
+  end d k t = elim t [ true ↦ leaf (s d k) | false ↦ long (s d k) ]
 
-left-is : (k : ℕ) → 2 * (2 * k + 1) - 1 ≡ 2 * (2 * k) + 1
-left-is k = omega arith
+  abbrev fork : ℕ → ℕ → ℕ → Bool → Tree
+  fork left d k t = elim t [ true ↦ leaf (s d k) | false ↦ node (s d k) (pieces T s left (d + 1) (2 * k)) (pieces T s left (d + 1) (2 * k + 1)) ]
 
-end-is : (t u : Bool) (a b : Strip) → t ≡ u → a ≡ b → _≡_ {A = Tree} (elim t [ true ↦ leaf a | false ↦ long a ]) (elim u [ true ↦ leaf b | false ↦ long b ])
-end-is t u a b e f = cc
+  short-piece : (left d k : ℕ) → short T (s d k) ≡ true → pieces T s left d k ≡ leaf (s d k)
+  unfolding pieces
+  short-piece zero d k e = ap (end d k) e
+  short-piece (suc left) d k e = ap (fork left d k) e
 
-fork-is : (t u : Bool) (a b : Strip) (l m r s : Tree) → t ≡ u → a ≡ b → l ≡ m → r ≡ s → _≡_ {A = Tree} (elim t [ true ↦ leaf a | false ↦ node a l r ]) (elim u [ true ↦ leaf b | false ↦ node b m s ])
-fork-is t u a b l m r s e f g h = cc
+  long-piece : (left d k : ℕ) → short T (s d k) ≡ false → left ≡ 0 → pieces T s left d k ≡ long (s d k)
+  unfolding pieces
+  long-piece zero d k e z = ap (end d k) e
+  long-piece (suc left) d k e z = absurd (omega arith)
 
-pieces-is : (T : ℤ) (e : Edge) (left d k : ℕ) → subtree (pos 16 *ℤ T) (formOf (e .x)) (formOf (e .y)) left (denominator d) (middle k) ≡ pieces T e left d k
-unfolding subtree pieces
-pieces-is T e zero d k = end-is _ _ _ _ (short-is T e d k) (strip-is e d k)
-pieces-is T e (suc left) d k =
-    fork-is _ _ _ _ _ _ _ _ (short-is T e d k) (strip-is e d k)
-    (ap₂ (λ (n m : ℕ). subtree (pos 16 *ℤ T) (formOf (e .x)) (formOf (e .y)) left n m) (double d) (left-is k) ∙ pieces-is T e left (d + 1) (2 * k))
-    (ap (λ (n : ℕ). subtree (pos 16 *ℤ T) (formOf (e .x)) (formOf (e .y)) left n (2 * (2 * k + 1) + 1)) (double d) ∙ pieces-is T e left (d + 1) (2 * k + 1))
+  node-piece : (left more d k : ℕ) → short T (s d k) ≡ false → left ≡ suc more → pieces T s left d k ≡ node (s d k) (pieces T s more (d + 1) (2 * k)) (pieces T s more (d + 1) (2 * k + 1))
+  unfolding pieces
+  node-piece zero more d k e z = absurd (omega arith)
+  node-piece (suc left) more d k e z = let p : left ≡ more = omega arith in ap (fork left d k) e ∙ ap (λ (f : ℕ). fork f d k false) p
 
-pub tree-is : (T : ℤ) (e : Edge) → subtree (pos 16 *ℤ T) (formOf (e .x)) (formOf (e .y)) 10 2 1 ≡ tree T e
-unfolding tree
-tree-is T e = pieces-is T e 10 0 0
+  top-piece : (left d k : ℕ) → top (pieces T s left d k) ≡ s d k
+  unfolding pieces
+  top-piece zero d k = go (short T (s d k))
+    where
+      go : (t : Bool) → top (end d k t) ≡ s d k
+      go true = refl
+      go false = refl
+  top-piece (suc left) d k = go (short T (s d k))
+    where
+      go : (t : Bool) → top (fork left d k t) ≡ s d k
+      go true = refl
+      go false = refl
+
+  -- at most 2 · 2^left − 1 nodes
+  size-below : (left d k : ℕ) → size (pieces T s left d k) < 2 * 2 ^ left
+  unfolding pieces
+  size-below zero d k = go (short T (s d k))
+    where
+      go : (t : Bool) → size (end d k t) < 2 * 2 ^ 0
+      go true = omega arith
+      go false = omega arith
+  size-below (suc left) d k = rw (pow-suc 2 left) (go (short T (s d k)) (size-below left (d + 1) (2 * k)) (size-below left (d + 1) (2 * k + 1)))
+    where
+      go : (t : Bool) → size (pieces T s left (d + 1) (2 * k)) < 2 * 2 ^ left → size (pieces T s left (d + 1) (2 * k + 1)) < 2 * 2 ^ left → size (fork left d k t) < 2 * (2 ^ left * 2)
+      go true h i = let p : 0 < 2 ^ left = pow-pos left in omega arith
+      go false h i = omega arith
+
+  pub at-short : (d k : ℕ) → short T (s d k) ≡ true → subtree T s d k ≡ leaf (s d k)
+  at-short d k e = short-piece (deepest - d) d k e
+
+  pub at-long : (d k : ℕ) → short T (s d k) ≡ false → d ≡ deepest → subtree T s d k ≡ long (s d k)
+  at-long d k e z = long-piece (deepest - d) d k e (omega arith)
+
+  pub at-node : (d k : ℕ) → short T (s d k) ≡ false → d ≤ deepest → (d ≡ deepest → ⊥) → subtree T s d k ≡ node (s d k) (subtree T s (d + 1) (2 * k)) (subtree T s (d + 1) (2 * k + 1))
+  at-node d k e h z = node-piece (deepest - d) (deepest - (d + 1)) d k e (omega arith)
+
+  pub top-is : (d k : ℕ) → top (subtree T s d k) ≡ s d k
+  top-is d k = top-piece (deepest - d) d k
+
+  pub few : (d k : ℕ) → size (subtree T s d k) < 2048
+  few d k = lt-of-lt-of-le (size-below (deepest - d) d k) (mul-le-mul (le-refl 2) (pow-mono {j = deepest} (omega arith)))
+
+-- ---- a piece that is not short, and whose subtree is not long, has two halves
+not-long : (s : Strip) → isLong (long s) ≡ false → ⊥
+not-long s e = subst (λ (b : Bool). T b) e tt
+
+pub record Forked (T : ℤ) (s : ℕ → ℕ → Strip) (d k : ℕ) : Type 0 where
+  pub more : d ≡ deepest → ⊥
+  pub is : subtree T s d k ≡ node (s d k) (subtree T s (d + 1) (2 * k)) (subtree T s (d + 1) (2 * k + 1))
+  pub left-ok : isLong (subtree T s (d + 1) (2 * k)) ≡ false
+  pub right-ok : isLong (subtree T s (d + 1) (2 * k + 1)) ≡ false
+
+pub forked : (T : ℤ) (s : ℕ → ℕ → Strip) (d k : ℕ) → short T (s d k) ≡ false → d ≤ deepest → isLong (subtree T s d k) ≡ false → Forked T s d k
+forked T s d k e h n =
+    let z : d ≡ deepest → ⊥ = λ (w : d ≡ deepest). not-long (s d k) (sym (ap isLong (at-long T s d k e w)) ∙ n) in
+    let i = at-node T s d k e h z in
+    let b = or-false (isLong (subtree T s (d + 1) (2 * k))) (isLong (subtree T s (d + 1) (2 * k + 1))) (sym (ap isLong i) ∙ n) in record { more = z; is = i; left-ok = b .0; right-ok = b .1 }
+
+-- ---- a piece whose subtree is written or compared: no end of it is long, and there is room for it among n numbers
+pub record Walkable (T : ℤ) (s : ℕ → ℕ → Strip) (d k n : ℕ) : Type 0 where
+  pub piece : PieceAt d k
+  pub short : isLong (subtree T s d k) ≡ false
+  pub fits : width * size (subtree T s d k) ≤ n

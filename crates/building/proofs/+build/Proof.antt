@@ -1,5 +1,5 @@
 -- The measure is the halvings that are left. `both` joins what the two calls leave in their parts. Assumes nothing.
-use mathlib.Core.Path.{_≡_, refl, sym, ap, ap₂, _∙_, subst}
+use mathlib.Core.Path.{_≡_, refl, sym, ap, _∙_}
 use mathlib.Core.List.{_++_}
 use Prim.Native.Nat.{suc, _+_, _*_, _-_, _≤_}
 use native.Mathlib.Omega.{arith}
@@ -7,16 +7,12 @@ use borrow.Author.Needs.{needs}
 use mir.Facts.{toZ-ofZ}
 use lib.ListN.{length, drop, length-drop}
 use Rattle.sequences.specs.Parts.{tail-mid}
-use Rattle.model.specs.Strips.{Side, Strip}
-use Rattle.model.specs.Trees.{Tree}
+use Rattle.model.specs.Strips.{short}
+use Rattle.model.specs.Trees.{Tree, deepest}
 use Rattle.model.specs.Store.{width, size, flatten}
-use Rattle.ranges.specs.Sizes.{SideSized}
-use Rattle.ranges.specs.PowerForm.{by-sized}
 use Rattle.subtrees.specs.Preorder.{size-pos}
-use Rattle.subtrees.specs.Subtrees.{stripBy, shortBy, subtree}
-use Rattle.subtrees.specs.Halving.{at-short, few, n-in, left-half, right-half, Forked, forked}
-use Rattle.powers.specs.Structs.{form}
-use Rattle.strips.specs.Structs.{side, stripOf}
+use Rattle.subtrees.specs.Subtrees.{subtree, left-half, right-half, place-most, at-short, few, Forked, forked}
+use Rattle.strips.specs.Structs.{stripOf, stripsOf}
 use Rattle.building.proofs.Halves.{both, put-eq}
 use Prim.Native.Nat.{ℕ, _<_}
 use borrow.Fn.Kinds.{In}
@@ -30,7 +26,7 @@ use Rattle.building.proofs.+build.{statement}
 use Rattle.building.proofs.+build.Tie.{close}
 
 abbrev μ-build : Measures 1 build-kinds.ps ℕ
-μ-build κs a = a .1 .1 .1 .0
+μ-build κs a = deepest - a .1 .1 .0
 
 abbrev build-at : ℕ → In 1 build-kinds.ps
 build-at t = and 1 build-kinds.ps (is 1 build-kinds.ps μ-build t) build.Pre
@@ -42,66 +38,57 @@ abbrev callees : ℕ → build-lts.Claims
 callees t = (piece-of-reads.Asked, piece-of-reads.Learnt, put-reads.Asked, put-reads.Learnt, build-below t, build.Post)
 
 abbrev whole-of : (t : ℕ) → build-lts.Start (callees t) (build-at t) build.Post → Tree
-whole-of t s = subtree (s .args .limit) (form (s .args .cx)) (form (s .args .cy)) (s .args .left) (s .args .n) (s .args .m)
+whole-of t s = subtree (s .args .grain) (stripsOf (s .args .shape)) (s .args .d) (s .args .k)
 
 abbrev left-of : (t : ℕ) → build-lts.Start (callees t) (build-at t) build.Post → Tree
-left-of t s = subtree (s .args .limit) (form (s .args .cx)) (form (s .args .cy)) (s .args .left - 1) (2 * s .args .n) (2 * s .args .m - 1)
+left-of t s = subtree (s .args .grain) (stripsOf (s .args .shape)) (s .args .d + 1) (2 * s .args .k)
 
 abbrev right-of : (t : ℕ) → build-lts.Start (callees t) (build-at t) build.Post → Tree
-right-of t s = subtree (s .args .limit) (form (s .args .cx)) (form (s .args .cy)) (s .args .left - 1) (2 * s .args .n) (2 * s .args .m + 1)
+right-of t s = subtree (s .args .grain) (stripsOf (s .args .shape)) (s .args .d + 1) (2 * s .args .k + 1)
 
-short-is : (t : ℕ) (c : build-lts.After-piece-of (callees t) (build-at t) build.Post) → let s = c .before in c .piece-of .result .short ≡ shortBy (s .args .limit) (form (s .args .cx)) (form (s .args .cy)) (s .args .n) (s .args .m)
-short-is t c = rw (toZ-ofZ (c .before .fits .limit)) at (c .piece-of .ensures .1)
+short-is : (t : ℕ) (c : build-lts.After-piece-of (callees t) (build-at t) build.Post) → let s = c .before in c .piece-of .result .short ≡ short (s .args .grain) (stripsOf (s .args .shape) (s .args .d) (s .args .k))
+short-is t c = rw (toZ-ofZ (c .before .fits .grain)) at (c .piece-of .ensures .1 .1)
 
-x-sized : (t : ℕ) (c : build-lts.After-piece-of (callees t) (build-at t) build.Post) → SideSized (side (c .piece-of .result .x))
-x-sized t c = let s = c .before in let p = s .pre .1 in subst SideSized (sym (c .piece-of .ensures .0 .0)) (by-sized (form (s .args .cx)) (s .args .n) (s .args .m) (p .x-form) (p .halvable .two) (omega (arith, p .halvable .high)))
+strip-is : (t : ℕ) (c : build-lts.After-piece-of (callees t) (build-at t) build.Post) → let s = c .before in stripOf (c .piece-of .result .x) (c .piece-of .result .y) ≡ stripsOf (s .args .shape) (s .args .d) (s .args .k)
+strip-is t c = c .piece-of .ensures .0
 
-y-sized : (t : ℕ) (c : build-lts.After-piece-of (callees t) (build-at t) build.Post) → SideSized (side (c .piece-of .result .y))
-y-sized t c = let s = c .before in let p = s .pre .1 in subst SideSized (sym (c .piece-of .ensures .0 .1)) (by-sized (form (s .args .cy)) (s .args .n) (s .args .m) (p .y-form) (p .halvable .two) (omega (arith, p .halvable .high)))
-
-strip-is : (t : ℕ) (c : build-lts.After-piece-of (callees t) (build-at t) build.Post) → let s = c .before in stripOf (c .piece-of .result .x) (c .piece-of .result .y) ≡ stripBy (form (s .args .cx)) (form (s .args .cy)) (s .args .n) (s .args .m)
-unfolding stripBy
-strip-is t c = let e = c .piece-of .ensures .0 in ap₂ {C = Strip} (λ (x y : Side). record { x = x; y = y }) (e .0) (e .1)
-
-fork-at : (t : ℕ) (c : build-lts.Else1 (callees t) (build-at t) build.Post) → let s = c .before .before .before .before in Forked (s .args .limit) (form (s .args .cx)) (form (s .args .cy)) (s .args .left) (s .args .n) (s .args .m)
+fork-at : (t : ℕ) (c : build-lts.Else1 (callees t) (build-at t) build.Post) → let s = c .before .before .before .before in Forked (s .args .grain) (stripsOf (s .args .shape)) (s .args .d) (s .args .k)
 fork-at t c =
     let a = c .before .before .before in
     let s = a .before in
-    forked (s .args .limit) (form (s .args .cx)) (form (s .args .cy)) (s .args .left) (s .args .n) (s .args .m) (sym (short-is t a) ∙ c .if1 .left) (s .pre .1 .short)
+    forked (s .args .grain) (stripsOf (s .args .shape)) (s .args .d) (s .args .k) (sym (short-is t a) ∙ c .if1 .left) (s .pre .1 .1 .piece .depth) (s .pre .1 .1 .short)
 
 -- the room that is left
 room : (t : ℕ) (c : build-lts.Else1 (callees t) (build-at t) build.Post) → width + width * size (left-of t (c .before .before .before .before)) + width * size (right-of t (c .before .before .before .before)) ≤ length (c .before .before .before .before .args .s .now)
-room t c = omega (arith, ap size (fork-at t c .is), c .before .before .before .before .pre .1 .fits)
+room t c = omega (arith, ap size (fork-at t c .is), c .before .before .before .before .pre .1 .1 .fits)
 
 left-is : (t : ℕ) (c : build-lts.After-build (callees t) (build-at t) build.Post) → c .build .result ≡ size (left-of t (c .before .before .before .before .before .before))
-left-is t c = let s = c .before .before .before .before .before .before in (rw (toZ-ofZ (s .fits .limit)) at (c .build .ensures)) .0
+left-is t c = let s = c .before .before .before .before .before .before in (rw (toZ-ofZ (s .fits .grain)) at (c .build .ensures)) .0
 
 right-is : (t : ℕ) (c : build-lts.After-build2 (callees t) (build-at t) build.Post) → c .build2 .result ≡ size (right-of t (c .before .before .before .before .before .before .before .before .before))
-right-is t c = let s = c .before .before .before .before .before .before .before .before .before in (rw (toZ-ofZ (s .fits .limit)) at (c .build2 .ensures)) .0
+right-is t c = let s = c .before .before .before .before .before .before .before .before .before in (rw (toZ-ofZ (s .fits .grain)) at (c .build2 .ensures)) .0
 
 few-at : (t : ℕ) (c : build-lts.After-s3 (callees t) (build-at t) build.Post) → 1 + c .before .before .before .before .build .result + c .before .build2 .result < 4096
 few-at t c =
     let b = c .before .before .before .before in
     let e = b .before .before in
     let s = e .before .before .before .before in
-    let p = s .pre .1 .halvable in
-    let z = fork-at t e .more in
     omega (
       arith,
       left-is t b,
       right-is t (c .before),
-      few (s .args .limit) (form (s .args .cx)) (form (s .args .cy)) (s .args .left - 1) (2 * s .args .n) (2 * s .args .m - 1) (left-half p z),
-      few (s .args .limit) (form (s .args .cx)) (form (s .args .cy)) (s .args .left - 1) (2 * s .args .n) (2 * s .args .m + 1) (right-half p z),
+      few (s .args .grain) (stripsOf (s .args .shape)) (s .args .d + 1) (2 * s .args .k),
+      few (s .args .grain) (stripsOf (s .args .shape)) (s .args .d + 1) (2 * s .args .k + 1),
     )
 
 build-piece-of-requires : (t : ℕ) → build-lts.Need-piece-of-requires (callees t) (build-at t) build.Post
-build-piece-of-requires t c κs = let p = c .pre .1 in (p .x-form, p .y-form, p .halvable .two, n-in (p .halvable), omega (arith, p .halvable .high))
+build-piece-of-requires t c κs = let p = c .pre .1 in (p .0 .0, p .1 .piece, rw (toZ-ofZ (c .fits .grain)) (p .0 .1))
 
 build-put-requires : (t : ℕ) → build-lts.Need-put-requires (callees t) (build-at t) build.Post
 build-put-requires t c κs =
     let a = c .before .before .before .before in
     let s = a .before in
-    (omega (arith, size-pos (whole-of t s), s .pre .1 .fits), x-sized t a, y-sized t a, omega arith)
+    (omega (arith, size-pos (whole-of t s), s .pre .1 .1 .fits), a .piece-of .ensures .1 .0 .x-sized, a .piece-of .ensures .1 .0 .y-sized, omega arith)
 
 build-same-length : (t : ℕ) → build-lts.Need-same-length (callees t) (build-at t) build.Post
 build-same-length t c = search needs
@@ -111,7 +98,7 @@ build-returns t c =
     let a = c .before .before .before .before .before .before in
     let s = a .before in
     let e = sym (short-is t a) ∙ c .before .before .before .if1 .taken in
-    rw (at-short (s .args .limit) (form (s .args .cx)) (form (s .args .cy)) (s .args .left) (s .args .n) (s .args .m) e) (refl, c .before .put .ensures ∙ put-eq 1 (drop width (s .args .s .now)) (strip-is t a))
+    rw (at-short (s .args .grain) (stripsOf (s .args .shape)) (s .args .d) (s .args .k) e) (refl, c .before .put .ensures ∙ put-eq 1 (drop width (s .args .s .now)) (strip-is t a))
 
 build-sub-build : (t : ℕ) → build-lts.Need-sub-build (callees t) (build-at t) build.Post
 build-sub-build t c = omega (arith, room t c)
@@ -122,17 +109,11 @@ build-part-build-start t c = omega (arith, room t c)
 build-part-build-end : (t : ℕ) → build-lts.Need-part-build-end (callees t) (build-at t) build.Post
 build-part-build-end t c = omega arith
 
-build-sub-build-2 : (t : ℕ) → build-lts.Need-sub-build-2 (callees t) (build-at t) build.Post
-build-sub-build-2 t c = let z = fork-at t (c .before) .more in omega (arith, z)
+build-add-build : (t : ℕ) → build-lts.Need-add-build (callees t) (build-at t) build.Post
+build-add-build t c = omega (arith, c .before .before .before .before .before .pre .1 .1 .piece .depth)
 
 build-mul-build : (t : ℕ) → build-lts.Need-mul-build (callees t) (build-at t) build.Post
-build-mul-build t c = omega (arith, n-in (c .before .before .before .before .before .pre .1 .halvable))
-
-build-mul-build-2 : (t : ℕ) → build-lts.Need-mul-build-2 (callees t) (build-at t) build.Post
-build-mul-build-2 t c = omega (arith, n-in (c .before .before .before .before .before .pre .1 .halvable), c .before .before .before .before .before .pre .1 .halvable .high)
-
-build-sub-build-3 : (t : ℕ) → build-lts.Need-sub-build-3 (callees t) (build-at t) build.Post
-build-sub-build-3 t c = omega (arith, c .before .before .before .before .before .pre .1 .halvable .low)
+build-mul-build t c = omega (arith, place-most (c .before .before .before .before .before .pre .1 .1 .piece))
 
 build-build-requires : (t : ℕ) → build-lts.Need-build-requires (callees t) (build-at t) build.Post
 build-build-requires t c κs =
@@ -140,8 +121,8 @@ build-build-requires t c κs =
     let s = e .before .before .before .before in
     let p = s .pre .1 in
     let f = fork-at t e in
-    rw (toZ-ofZ (s .fits .limit))
-    (omega (arith, s .pre .0, f .more), record { x-form = p .x-form; y-form = p .y-form; halvable = left-half (p .halvable) (f .more); short = f .left-ok; fits = rw (tail-mid width (s .args .s .now)) (simp length-drop (omega (arith, room t e))) })
+    rw (toZ-ofZ (s .fits .grain))
+    (omega (arith, s .pre .0, p .1 .piece .depth, f .more), (p .0, record { piece = left-half (p .1 .piece) (f .more); short = f .left-ok; fits = rw (tail-mid width (s .args .s .now)) (simp length-drop (omega (arith, room t e))) }))
 
 build-mul-mid : (t : ℕ) → build-lts.Need-mul-mid (callees t) (build-at t) build.Post
 build-mul-mid t c = omega (arith, room t (c .before .before .before), left-is t (c .before))
@@ -149,11 +130,11 @@ build-mul-mid t c = omega (arith, room t (c .before .before .before), left-is t 
 build-add-mid : (t : ℕ) → build-lts.Need-add-mid (callees t) (build-at t) build.Post
 build-add-mid t c = omega (arith, room t (c .before .before .before), left-is t (c .before))
 
-build-mul-build-3 : (t : ℕ) → build-lts.Need-mul-build-3 (callees t) (build-at t) build.Post
-build-mul-build-3 t c = omega (arith, room t (c .before .before .before), left-is t (c .before))
+build-mul-build-2 : (t : ℕ) → build-lts.Need-mul-build-2 (callees t) (build-at t) build.Post
+build-mul-build-2 t c = omega (arith, room t (c .before .before .before), left-is t (c .before))
 
-build-sub-build-4 : (t : ℕ) → build-lts.Need-sub-build-4 (callees t) (build-at t) build.Post
-build-sub-build-4 t c = omega (arith, room t (c .before .before .before), left-is t (c .before), c .s2 .given)
+build-sub-build-2 : (t : ℕ) → build-lts.Need-sub-build-2 (callees t) (build-at t) build.Post
+build-sub-build-2 t c = omega (arith, room t (c .before .before .before), left-is t (c .before), c .s2 .given)
 
 build-part-build-start-2 : (t : ℕ) → build-lts.Need-part-build-start-2 (callees t) (build-at t) build.Post
 build-part-build-start-2 t c = omega (arith, room t (c .before .before .before), left-is t (c .before), c .s2 .given)
@@ -161,17 +142,14 @@ build-part-build-start-2 t c = omega (arith, room t (c .before .before .before),
 build-part-build-end-2 : (t : ℕ) → build-lts.Need-part-build-end-2 (callees t) (build-at t) build.Post
 build-part-build-end-2 t c = omega arith
 
-build-sub-build-5 : (t : ℕ) → build-lts.Need-sub-build-5 (callees t) (build-at t) build.Post
-build-sub-build-5 t c = let z = fork-at t (c .before .before .before .before) .more in omega (arith, z)
+build-add-build-2 : (t : ℕ) → build-lts.Need-add-build-2 (callees t) (build-at t) build.Post
+build-add-build-2 t c = omega (arith, c .before .before .before .before .before .before .before .before .pre .1 .1 .piece .depth)
 
-build-mul-build-4 : (t : ℕ) → build-lts.Need-mul-build-4 (callees t) (build-at t) build.Post
-build-mul-build-4 t c = omega (arith, n-in (c .before .before .before .before .before .before .before .before .pre .1 .halvable))
+build-mul-build-3 : (t : ℕ) → build-lts.Need-mul-build-3 (callees t) (build-at t) build.Post
+build-mul-build-3 t c = omega (arith, place-most (c .before .before .before .before .before .before .before .before .pre .1 .1 .piece))
 
-build-mul-build-5 : (t : ℕ) → build-lts.Need-mul-build-5 (callees t) (build-at t) build.Post
-build-mul-build-5 t c = omega (arith, n-in (c .before .before .before .before .before .before .before .before .pre .1 .halvable), c .before .before .before .before .before .before .before .before .pre .1 .halvable .high)
-
-build-add-build : (t : ℕ) → build-lts.Need-add-build (callees t) (build-at t) build.Post
-build-add-build t c = omega (arith, n-in (c .before .before .before .before .before .before .before .before .pre .1 .halvable), c .before .before .before .before .before .before .before .before .pre .1 .halvable .high)
+build-add-build-3 : (t : ℕ) → build-lts.Need-add-build-3 (callees t) (build-at t) build.Post
+build-add-build-3 t c = omega (arith, place-most (c .before .before .before .before .before .before .before .before .pre .1 .1 .piece))
 
 build-build-requires-2 : (t : ℕ) → build-lts.Need-build-requires-2 (callees t) (build-at t) build.Post
 build-build-requires-2 t c κs =
@@ -180,8 +158,8 @@ build-build-requires-2 t c κs =
     let s = e .before .before .before .before in
     let p = s .pre .1 in
     let f = fork-at t e in
-    rw (toZ-ofZ (s .fits .limit))
-    (omega (arith, s .pre .0, f .more), record { x-form = p .x-form; y-form = p .y-form; halvable = right-half (p .halvable) (f .more); short = f .right-ok; fits = rw (tail-mid (width + width * b .build .result) _) (simp length-drop (omega (arith, room t e, left-is t b, c .before .s2 .given))) })
+    rw (toZ-ofZ (s .fits .grain))
+    (omega (arith, s .pre .0, p .1 .piece .depth, f .more), (p .0, record { piece = right-half (p .1 .piece) (f .more); short = f .right-ok; fits = rw (tail-mid (width + width * b .build .result) _) (simp length-drop (omega (arith, room t e, left-is t b, c .before .s2 .given))) }))
 
 build-add-nodes : (t : ℕ) → build-lts.Need-add-nodes (callees t) (build-at t) build.Post
 build-add-nodes t c = omega (arith, few-at t c)
@@ -193,7 +171,7 @@ build-put-requires-2 : (t : ℕ) → build-lts.Need-put-requires-2 (callees t) (
 build-put-requires-2 t c κs =
     let e = c .before .before .before .before .before .before .before in
     let a = e .before .before .before in
-    (omega (arith, c .before .s3 .given, c .before .before .before .before .s2 .given, room t e), x-sized t a, y-sized t a, few-at t (c .before))
+    (omega (arith, c .before .s3 .given, c .before .before .before .before .s2 .given, room t e), a .piece-of .ensures .1 .0 .x-sized, a .piece-of .ensures .1 .0 .y-sized, few-at t (c .before))
 
 build-same-length-2 : (t : ℕ) → build-lts.Need-same-length-2 (callees t) (build-at t) build.Post
 build-same-length-2 t c = search needs
@@ -208,8 +186,8 @@ build-returns-2 t c =
     let l = left-of t s in
     let r = right-of t s in
     let n : 1 + b .build .result + q .build2 .result ≡ suc (size l + size r) = omega (arith, left-is t b, right-is t q) in
-    let g = rw (toZ-ofZ (s .fits .limit)) at (b .build .ensures) in
-    let h = rw (toZ-ofZ (s .fits .limit)) at (q .build2 .ensures) in
+    let g = rw (toZ-ofZ (s .fits .grain)) at (b .build .ensures) in
+    let h = rw (toZ-ofZ (s .fits .grain)) at (q .build2 .ensures) in
     let w = both (s .args .s .now) (b .build .last .0) (q .build2 .last .0) l r (b .build .result) (left-is t b) (room t e) (q .before .before .s2 .given .1) (g .1) (h .1) in
     rw (fork-at t e .is) (n, c .before .put2 .ensures ∙ rw (n, w) (put-eq (suc (size l + size r)) ((flatten l ++ flatten r) ++ drop (width * suc (size l + size r)) (s .args .s .now)) (strip-is t a)))
 
@@ -224,21 +202,18 @@ pub +build-spec : {M : Type 1} → statement M
     (build-sub-build t)
     (build-part-build-start t)
     (build-part-build-end t)
-    (build-sub-build-2 t)
+    (build-add-build t)
     (build-mul-build t)
-    (build-mul-build-2 t)
-    (build-sub-build-3 t)
     (build-build-requires t)
     (build-mul-mid t)
     (build-add-mid t)
-    (build-mul-build-3 t)
-    (build-sub-build-4 t)
+    (build-mul-build-2 t)
+    (build-sub-build-2 t)
     (build-part-build-start-2 t)
     (build-part-build-end-2 t)
-    (build-sub-build-5 t)
-    (build-mul-build-4 t)
-    (build-mul-build-5 t)
-    (build-add-build t)
+    (build-add-build-2 t)
+    (build-mul-build-3 t)
+    (build-add-build-3 t)
     (build-build-requires-2 t)
     (build-add-nodes t)
     (build-add-nodes-2 t)

@@ -1,20 +1,16 @@
 -- The measure is the halvings that are left. Each return is one of the answers of `Found`. Assumes nothing.
-use mathlib.Core.Path.{_≡_, sym, ap, ap₂, _∙_, subst}
+use mathlib.Core.Path.{_≡_, sym, ap, _∙_}
 use Prim.Native.Nat.{suc, _+_, _*_, _-_, _≤_}
 use native.Mathlib.Omega.{arith}
 use mir.Facts.{toZ-ofZ}
 use lib.IntN.{pos}
 use lib.ListN.{length, getD, drop, length-drop}
-use Rattle.model.specs.Strips.{Side, Strip}
-use Rattle.model.specs.Trees.{Tree}
+use Rattle.model.specs.Strips.{short}
+use Rattle.model.specs.Trees.{Tree, deepest}
 use Rattle.model.specs.Store.{width, size}
-use Rattle.ranges.specs.Sizes.{SideSized}
-use Rattle.ranges.specs.PowerForm.{by-sized}
 use Rattle.subtrees.specs.Preorder.{size-pos, tail, countPlace, HasStrip, Begins}
-use Rattle.subtrees.specs.Subtrees.{stripBy, shortBy, subtree}
-use Rattle.subtrees.specs.Halving.{at-short, few, n-in, left-half, right-half, Forked, forked}
-use Rattle.powers.specs.Structs.{form}
-use Rattle.strips.specs.Structs.{stripOf}
+use Rattle.subtrees.specs.Subtrees.{subtree, left-half, right-half, place-most, at-short, few, Forked, forked}
+use Rattle.strips.specs.Structs.{stripOf, stripsOf}
 use Rattle.checking.specs.Answers.{Unless, Told, unless-true, unless-false, refused, granted}
 use Rattle.checking.proofs.Found.{no-strip, no-count, yes-leaf, no-left, no-right, yes-node}
 use Prim.Native.Nat.{ℕ, _<_}
@@ -30,7 +26,7 @@ use Rattle.checking.proofs.+begins_with.{statement}
 use Rattle.checking.proofs.+begins_with.Tie.{close}
 
 abbrev μ-begins-with : Measures 1 begins-with-kinds.ps ℕ
-μ-begins-with κs a = a .1 .1 .1 .0
+μ-begins-with κs a = deepest - a .1 .1 .0
 
 abbrev begins-with-at : ℕ → In 1 begins-with-kinds.ps
 begins-with-at t = and 1 begins-with-kinds.ps (is 1 begins-with-kinds.ps μ-begins-with t) begins-with.Pre
@@ -42,42 +38,41 @@ abbrev callees : ℕ → begins-with-lts.Claims
 callees t = (piece-of-reads.Asked, piece-of-reads.Learnt, differs-strip-reads.Asked, differs-strip-reads.Learnt, differs-count-reads.Asked, differs-count-reads.Learnt, begins-with-below t, begins-with.Post)
 
 abbrev whole-of : (t : ℕ) → begins-with-lts.Start (callees t) (begins-with-at t) begins-with.Post → Tree
-whole-of t s = subtree (s .args .limit) (form (s .args .cx)) (form (s .args .cy)) (s .args .left) (s .args .n) (s .args .m)
+whole-of t s = subtree (s .args .grain) (stripsOf (s .args .shape)) (s .args .d) (s .args .k)
 
 abbrev left-of : (t : ℕ) → begins-with-lts.Start (callees t) (begins-with-at t) begins-with.Post → Tree
-left-of t s = subtree (s .args .limit) (form (s .args .cx)) (form (s .args .cy)) (s .args .left - 1) (2 * s .args .n) (2 * s .args .m - 1)
+left-of t s = subtree (s .args .grain) (stripsOf (s .args .shape)) (s .args .d + 1) (2 * s .args .k)
 
 abbrev right-of : (t : ℕ) → begins-with-lts.Start (callees t) (begins-with-at t) begins-with.Post → Tree
-right-of t s = subtree (s .args .limit) (form (s .args .cx)) (form (s .args .cy)) (s .args .left - 1) (2 * s .args .n) (2 * s .args .m + 1)
+right-of t s = subtree (s .args .grain) (stripsOf (s .args .shape)) (s .args .d + 1) (2 * s .args .k + 1)
 
 seven : (t : ℕ) (s : begins-with-lts.Start (callees t) (begins-with-at t) begins-with.Post) → width ≤ length (s .args .s .now)
-seven t s = omega (arith, size-pos (whole-of t s), s .pre .1 .fits)
+seven t s = omega (arith, size-pos (whole-of t s), s .pre .1 .1 .fits)
 
-short-is : (t : ℕ) (c : begins-with-lts.After-piece-of (callees t) (begins-with-at t) begins-with.Post) → let s = c .before in c .piece-of .result .short ≡ shortBy (s .args .limit) (form (s .args .cx)) (form (s .args .cy)) (s .args .n) (s .args .m)
-short-is t c = rw (toZ-ofZ (c .before .fits .limit)) at (c .piece-of .ensures .1)
+short-is : (t : ℕ) (c : begins-with-lts.After-piece-of (callees t) (begins-with-at t) begins-with.Post) → let s = c .before in c .piece-of .result .short ≡ short (s .args .grain) (stripsOf (s .args .shape) (s .args .d) (s .args .k))
+short-is t c = rw (toZ-ofZ (c .before .fits .grain)) at (c .piece-of .ensures .1 .1)
 
-strip-is : (t : ℕ) (c : begins-with-lts.After-piece-of (callees t) (begins-with-at t) begins-with.Post) → let s = c .before in stripOf (c .piece-of .result .x) (c .piece-of .result .y) ≡ stripBy (form (s .args .cx)) (form (s .args .cy)) (s .args .n) (s .args .m)
-unfolding stripBy
-strip-is t c = let e = c .piece-of .ensures .0 in ap₂ {C = Strip} (λ (x y : Side). record { x = x; y = y }) (e .0) (e .1)
+strip-is : (t : ℕ) (c : begins-with-lts.After-piece-of (callees t) (begins-with-at t) begins-with.Post) → let s = c .before in stripOf (c .piece-of .result .x) (c .piece-of .result .y) ≡ stripsOf (s .args .shape) (s .args .d) (s .args .k)
+strip-is t c = c .piece-of .ensures .0
 
 strip-at : (t : ℕ) (c : begins-with-lts.Else1 (callees t) (begins-with-at t) begins-with.Post) → let a = c .before .before .before .before in HasStrip (a .before .args .s .now) (stripOf (a .piece-of .result .x) (a .piece-of .result .y))
 strip-at t c =
     let a = c .before .before .before .before in
     unless-false (c .before .differs-strip .result) (HasStrip (a .before .args .s .now) (stripOf (a .piece-of .result .x) (a .piece-of .result .y))) (c .before .differs-strip .ensures) (c .if1 .left)
 
-fork-at : (t : ℕ) (c : begins-with-lts.Else2 (callees t) (begins-with-at t) begins-with.Post) → let s = c .before .before .before .before .before .before in Forked (s .args .limit) (form (s .args .cx)) (form (s .args .cy)) (s .args .left) (s .args .n) (s .args .m)
+fork-at : (t : ℕ) (c : begins-with-lts.Else2 (callees t) (begins-with-at t) begins-with.Post) → let s = c .before .before .before .before .before .before in Forked (s .args .grain) (stripsOf (s .args .shape)) (s .args .d) (s .args .k)
 fork-at t c =
     let a = c .before .before .before .before .before in
     let s = a .before in
-    forked (s .args .limit) (form (s .args .cx)) (form (s .args .cy)) (s .args .left) (s .args .n) (s .args .m) (sym (short-is t a) ∙ c .if2 .left) (s .pre .1 .short)
+    forked (s .args .grain) (stripsOf (s .args .shape)) (s .args .d) (s .args .k) (sym (short-is t a) ∙ c .if2 .left) (s .pre .1 .1 .piece .depth) (s .pre .1 .1 .short)
 
 room : (t : ℕ) (c : begins-with-lts.Else2 (callees t) (begins-with-at t) begins-with.Post) → let s = c .before .before .before .before .before .before in width + width * size (left-of t s) + width * size (right-of t s) ≤ length (s .args .s .now)
-room t c = let s = c .before .before .before .before .before .before in omega (arith, ap size (fork-at t c .is), s .pre .1 .fits)
+room t c = let s = c .before .before .before .before .before .before in omega (arith, ap size (fork-at t c .is), s .pre .1 .1 .fits)
 
 left-told : (t : ℕ) (c : begins-with-lts.After-begins-with (callees t) (begins-with-at t) begins-with.Post) → let s = c .before .before .before .before .before .before .before .before in Told (c .begins-with .result) (size (left-of t s)) (Begins (left-of t s) (drop width (s .args .s .now)))
 left-told t c =
     let s = c .before .before .before .before .before .before .before .before in
-    rw (toZ-ofZ (s .fits .limit), tail width (s .args .s .now)) at (c .begins-with .ensures)
+    rw (toZ-ofZ (s .fits .grain), tail width (s .args .s .now)) at (c .begins-with .ensures)
 
 left-is : (t : ℕ) (c : begins-with-lts.Else4 (callees t) (begins-with-at t) begins-with.Post) → let s = c .before .before .before .before .before .before .before .before .before in (c .before .begins-with .result ≡ size (left-of t s)) × Begins (left-of t s) (drop width (s .args .s .now))
 left-is t c =
@@ -88,7 +83,7 @@ right-told : (t : ℕ) (c : begins-with-lts.After-begins-with2 (callees t) (begi
 right-told t c =
     let b = c .before .before in
     let s = b .before .before .before .before .before .before .before .before .before in
-    rw (toZ-ofZ (s .fits .limit), tail (width + width * b .before .begins-with .result) (s .args .s .now), left-is t b .0) at (c .begins-with2 .ensures)
+    rw (toZ-ofZ (s .fits .grain), tail (width + width * b .before .begins-with .result) (s .args .s .now), left-is t b .0) at (c .begins-with2 .ensures)
 
 right-is : (t : ℕ) (c : begins-with-lts.Else5 (callees t) (begins-with-at t) begins-with.Post) → let s = c .before .before .before .before .before .before .before .before .before .before .before .before in (c .before .begins-with2 .result ≡ size (right-of t s)) × Begins (right-of t s) (drop (width + width * size (left-of t s)) (s .args .s .now))
 right-is t c =
@@ -100,35 +95,25 @@ few-at t c =
     let b = c .before .before .before in
     let e = b .before .before .before in
     let s = e .before .before .before .before .before .before in
-    let p = s .pre .1 .halvable in
-    let z = fork-at t e .more in
     omega (
       arith,
       left-is t b .0,
       right-is t c .0,
-      few (s .args .limit) (form (s .args .cx)) (form (s .args .cy)) (s .args .left - 1) (2 * s .args .n) (2 * s .args .m - 1) (left-half p z),
-      few (s .args .limit) (form (s .args .cx)) (form (s .args .cy)) (s .args .left - 1) (2 * s .args .n) (2 * s .args .m + 1) (right-half p z),
+      few (s .args .grain) (stripsOf (s .args .shape)) (s .args .d + 1) (2 * s .args .k),
+      few (s .args .grain) (stripsOf (s .args .shape)) (s .args .d + 1) (2 * s .args .k + 1),
     )
 
 begins-with-piece-of-requires : (t : ℕ) → begins-with-lts.Need-piece-of-requires (callees t) (begins-with-at t) begins-with.Post
-begins-with-piece-of-requires t c κs = let p = c .pre .1 in (p .x-form, p .y-form, p .halvable .two, n-in (p .halvable), omega (arith, p .halvable .high))
+begins-with-piece-of-requires t c κs = let p = c .pre .1 in (p .0 .0, p .1 .piece, rw (toZ-ofZ (c .fits .grain)) (p .0 .1))
 
 begins-with-differs-strip-requires : (t : ℕ) → begins-with-lts.Need-differs-strip-requires (callees t) (begins-with-at t) begins-with.Post
-begins-with-differs-strip-requires t c κs =
-    let a = c .before .before in
-    let s = a .before in
-    let p = s .pre .1 in
-    let k = n-in (p .halvable) in (
-      seven t s,
-      subst SideSized (sym (a .piece-of .ensures .0 .0)) (by-sized (form (s .args .cx)) (s .args .n) (s .args .m) (p .x-form) (p .halvable .two) (omega (arith, p .halvable .high))),
-      subst SideSized (sym (a .piece-of .ensures .0 .1)) (by-sized (form (s .args .cy)) (s .args .n) (s .args .m) (p .y-form) (p .halvable .two) (omega (arith, p .halvable .high))),
-    )
+begins-with-differs-strip-requires t c κs = let a = c .before .before in (seven t (a .before), a .piece-of .ensures .1 .0 .x-sized, a .piece-of .ensures .1 .0 .y-sized)
 
 begins-with-returns : (t : ℕ) → begins-with-lts.Need-returns (callees t) (begins-with-at t) begins-with.Post
 begins-with-returns t c =
     let s = c .before .before .before .before .before in
     let a = c .before .before .before .before in
-    no-strip (s .args .limit) (form (s .args .cx)) (form (s .args .cy)) (s .args .left) (s .args .n) (s .args .m) (stripOf (a .piece-of .result .x) (a .piece-of .result .y)) (strip-is t a) (s .args .s .now) (unless-true (c .before .differs-strip .result) (HasStrip (s .args .s .now) (stripOf (a .piece-of .result .x) (a .piece-of .result .y))) (c .before .differs-strip .ensures) (c .if1 .taken))
+    no-strip (s .args .grain) (stripsOf (s .args .shape)) (s .args .d) (s .args .k) (stripOf (a .piece-of .result .x) (a .piece-of .result .y)) (strip-is t a) (s .args .s .now) (unless-true (c .before .differs-strip .result) (HasStrip (s .args .s .now) (stripOf (a .piece-of .result .x) (a .piece-of .result .y))) (c .before .differs-strip .ensures) (c .if1 .taken))
 
 begins-with-differs-count-requires : (t : ℕ) → begins-with-lts.Need-differs-count-requires (callees t) (begins-with-at t) begins-with.Post
 begins-with-differs-count-requires t c κs = (seven t (c .before .before .before .before .before .before), omega arith)
@@ -137,13 +122,13 @@ begins-with-returns-2 : (t : ℕ) → begins-with-lts.Need-returns-2 (callees t)
 begins-with-returns-2 t c =
     let s = c .before .before .before .before .before .before .before .before in
     let a = c .before .before .before .before .before .before .before in
-    no-count (s .args .limit) (form (s .args .cx)) (form (s .args .cy)) (s .args .left) (s .args .n) (s .args .m) (stripOf (a .piece-of .result .x) (a .piece-of .result .y)) (strip-is t a) (s .args .s .now) 1 (ap size (at-short (s .args .limit) (form (s .args .cx)) (form (s .args .cy)) (s .args .left) (s .args .n) (s .args .m) (sym (short-is t a) ∙ c .before .before .if2 .taken))) (unless-true (c .before .differs-count .result) (getD (s .args .s .now) countPlace (pos 0) ≡ pos 1) (c .before .differs-count .ensures) (c .if3 .taken))
+    no-count (s .args .grain) (stripsOf (s .args .shape)) (s .args .d) (s .args .k) (stripOf (a .piece-of .result .x) (a .piece-of .result .y)) (strip-is t a) (s .args .s .now) 1 (ap size (at-short (s .args .grain) (stripsOf (s .args .shape)) (s .args .d) (s .args .k) (sym (short-is t a) ∙ c .before .before .if2 .taken))) (unless-true (c .before .differs-count .result) (getD (s .args .s .now) countPlace (pos 0) ≡ pos 1) (c .before .differs-count .ensures) (c .if3 .taken))
 
 begins-with-returns-3 : (t : ℕ) → begins-with-lts.Need-returns-3 (callees t) (begins-with-at t) begins-with.Post
 begins-with-returns-3 t c =
     let s = c .before .before .before .before .before .before .before .before in
     let a = c .before .before .before .before .before .before .before in
-    yes-leaf (s .args .limit) (form (s .args .cx)) (form (s .args .cy)) (s .args .left) (s .args .n) (s .args .m) (stripOf (a .piece-of .result .x) (a .piece-of .result .y)) (strip-is t a) (s .args .s .now) (sym (short-is t a) ∙ c .before .before .if2 .taken) (seven t s) (strip-at t (c .before .before .before)) (unless-false (c .before .differs-count .result) (getD (s .args .s .now) countPlace (pos 0) ≡ pos 1) (c .before .differs-count .ensures) (c .if3 .left))
+    yes-leaf (s .args .grain) (stripsOf (s .args .shape)) (s .args .d) (s .args .k) (stripOf (a .piece-of .result .x) (a .piece-of .result .y)) (strip-is t a) (s .args .s .now) (sym (short-is t a) ∙ c .before .before .if2 .taken) (seven t s) (strip-at t (c .before .before .before)) (unless-false (c .before .differs-count .result) (getD (s .args .s .now) countPlace (pos 0) ≡ pos 1) (c .before .differs-count .ensures) (c .if3 .left))
 
 begins-with-sub-begins-with : (t : ℕ) → begins-with-lts.Need-sub-begins-with (callees t) (begins-with-at t) begins-with.Post
 begins-with-sub-begins-with t c = omega (arith, room t c)
@@ -154,17 +139,11 @@ begins-with-part-begins-with-start t c = omega (arith, room t c)
 begins-with-part-begins-with-end : (t : ℕ) → begins-with-lts.Need-part-begins-with-end (callees t) (begins-with-at t) begins-with.Post
 begins-with-part-begins-with-end t c = omega arith
 
-begins-with-sub-begins-with-2 : (t : ℕ) → begins-with-lts.Need-sub-begins-with-2 (callees t) (begins-with-at t) begins-with.Post
-begins-with-sub-begins-with-2 t c = let z = fork-at t (c .before) .more in omega (arith, z)
+begins-with-add-begins-with : (t : ℕ) → begins-with-lts.Need-add-begins-with (callees t) (begins-with-at t) begins-with.Post
+begins-with-add-begins-with t c = omega (arith, c .before .before .before .before .before .before .before .pre .1 .1 .piece .depth)
 
 begins-with-mul-begins-with : (t : ℕ) → begins-with-lts.Need-mul-begins-with (callees t) (begins-with-at t) begins-with.Post
-begins-with-mul-begins-with t c = omega (arith, n-in (c .before .before .before .before .before .before .before .pre .1 .halvable))
-
-begins-with-mul-begins-with-2 : (t : ℕ) → begins-with-lts.Need-mul-begins-with-2 (callees t) (begins-with-at t) begins-with.Post
-begins-with-mul-begins-with-2 t c = omega (arith, n-in (c .before .before .before .before .before .before .before .pre .1 .halvable), c .before .before .before .before .before .before .before .pre .1 .halvable .high)
-
-begins-with-sub-begins-with-3 : (t : ℕ) → begins-with-lts.Need-sub-begins-with-3 (callees t) (begins-with-at t) begins-with.Post
-begins-with-sub-begins-with-3 t c = omega (arith, c .before .before .before .before .before .before .before .pre .1 .halvable .low)
+begins-with-mul-begins-with t c = omega (arith, place-most (c .before .before .before .before .before .before .before .pre .1 .1 .piece))
 
 begins-with-begins-with-requires : (t : ℕ) → begins-with-lts.Need-begins-with-requires (callees t) (begins-with-at t) begins-with.Post
 begins-with-begins-with-requires t c κs =
@@ -172,14 +151,14 @@ begins-with-begins-with-requires t c κs =
     let s = c .before .before .before .before .before .before .before in
     let p = s .pre .1 in
     let f = fork-at t e in
-    rw (toZ-ofZ (s .fits .limit))
-    (omega (arith, s .pre .0, f .more), record { x-form = p .x-form; y-form = p .y-form; halvable = left-half (p .halvable) (f .more); short = f .left-ok; fits = rw (tail width (s .args .s .now)) (simp length-drop (omega (arith, room t e))) })
+    rw (toZ-ofZ (s .fits .grain))
+    (omega (arith, s .pre .0, p .1 .piece .depth, f .more), (p .0, record { piece = left-half (p .1 .piece) (f .more); short = f .left-ok; fits = rw (tail width (s .args .s .now)) (simp length-drop (omega (arith, room t e))) }))
 
 begins-with-returns-4 : (t : ℕ) → begins-with-lts.Need-returns-4 (callees t) (begins-with-at t) begins-with.Post
 begins-with-returns-4 t c =
     let s = c .before .before .before .before .before .before .before .before .before in
     let a = c .before .before .before .before .before .before .before .before in
-    no-left (s .args .limit) (form (s .args .cx)) (form (s .args .cy)) (s .args .left) (s .args .n) (s .args .m) (stripOf (a .piece-of .result .x) (a .piece-of .result .y)) (strip-is t a) (s .args .s .now) (fork-at t (c .before .before .before)) (refused (c .before .begins-with .result) (size (left-of t s)) (Begins (left-of t s) (drop width (s .args .s .now))) (left-told t (c .before)) (size-pos (left-of t s)) (c .if4 .taken))
+    no-left (s .args .grain) (stripsOf (s .args .shape)) (s .args .d) (s .args .k) (stripOf (a .piece-of .result .x) (a .piece-of .result .y)) (strip-is t a) (s .args .s .now) (fork-at t (c .before .before .before)) (refused (c .before .begins-with .result) (size (left-of t s)) (Begins (left-of t s) (drop width (s .args .s .now))) (left-told t (c .before)) (size-pos (left-of t s)) (c .if4 .taken))
 
 begins-with-mul-mid : (t : ℕ) → begins-with-lts.Need-mul-mid (callees t) (begins-with-at t) begins-with.Post
 begins-with-mul-mid t c = omega (arith, room t (c .before .before .before), left-is t c .0)
@@ -187,11 +166,11 @@ begins-with-mul-mid t c = omega (arith, room t (c .before .before .before), left
 begins-with-add-mid : (t : ℕ) → begins-with-lts.Need-add-mid (callees t) (begins-with-at t) begins-with.Post
 begins-with-add-mid t c = omega (arith, room t (c .before .before .before), left-is t c .0)
 
-begins-with-mul-begins-with-3 : (t : ℕ) → begins-with-lts.Need-mul-begins-with-3 (callees t) (begins-with-at t) begins-with.Post
-begins-with-mul-begins-with-3 t c = omega (arith, room t (c .before .before .before), left-is t c .0)
+begins-with-mul-begins-with-2 : (t : ℕ) → begins-with-lts.Need-mul-begins-with-2 (callees t) (begins-with-at t) begins-with.Post
+begins-with-mul-begins-with-2 t c = omega (arith, room t (c .before .before .before), left-is t c .0)
 
-begins-with-sub-begins-with-4 : (t : ℕ) → begins-with-lts.Need-sub-begins-with-4 (callees t) (begins-with-at t) begins-with.Post
-begins-with-sub-begins-with-4 t c = omega (arith, room t (c .before .before .before), left-is t c .0)
+begins-with-sub-begins-with-2 : (t : ℕ) → begins-with-lts.Need-sub-begins-with-2 (callees t) (begins-with-at t) begins-with.Post
+begins-with-sub-begins-with-2 t c = omega (arith, room t (c .before .before .before), left-is t c .0)
 
 begins-with-part-begins-with-start-2 : (t : ℕ) → begins-with-lts.Need-part-begins-with-start-2 (callees t) (begins-with-at t) begins-with.Post
 begins-with-part-begins-with-start-2 t c = omega (arith, room t (c .before .before .before), left-is t c .0)
@@ -199,17 +178,14 @@ begins-with-part-begins-with-start-2 t c = omega (arith, room t (c .before .befo
 begins-with-part-begins-with-end-2 : (t : ℕ) → begins-with-lts.Need-part-begins-with-end-2 (callees t) (begins-with-at t) begins-with.Post
 begins-with-part-begins-with-end-2 t c = omega arith
 
-begins-with-sub-begins-with-5 : (t : ℕ) → begins-with-lts.Need-sub-begins-with-5 (callees t) (begins-with-at t) begins-with.Post
-begins-with-sub-begins-with-5 t c = let z = fork-at t (c .before .before .before .before) .more in omega (arith, z)
+begins-with-add-begins-with-2 : (t : ℕ) → begins-with-lts.Need-add-begins-with-2 (callees t) (begins-with-at t) begins-with.Post
+begins-with-add-begins-with-2 t c = omega (arith, c .before .before .before .before .before .before .before .before .before .before .pre .1 .1 .piece .depth)
 
-begins-with-mul-begins-with-4 : (t : ℕ) → begins-with-lts.Need-mul-begins-with-4 (callees t) (begins-with-at t) begins-with.Post
-begins-with-mul-begins-with-4 t c = omega (arith, n-in (c .before .before .before .before .before .before .before .before .before .before .pre .1 .halvable))
+begins-with-mul-begins-with-3 : (t : ℕ) → begins-with-lts.Need-mul-begins-with-3 (callees t) (begins-with-at t) begins-with.Post
+begins-with-mul-begins-with-3 t c = omega (arith, place-most (c .before .before .before .before .before .before .before .before .before .before .pre .1 .1 .piece))
 
-begins-with-mul-begins-with-5 : (t : ℕ) → begins-with-lts.Need-mul-begins-with-5 (callees t) (begins-with-at t) begins-with.Post
-begins-with-mul-begins-with-5 t c = omega (arith, n-in (c .before .before .before .before .before .before .before .before .before .before .pre .1 .halvable), c .before .before .before .before .before .before .before .before .before .before .pre .1 .halvable .high)
-
-begins-with-add-begins-with : (t : ℕ) → begins-with-lts.Need-add-begins-with (callees t) (begins-with-at t) begins-with.Post
-begins-with-add-begins-with t c = omega (arith, n-in (c .before .before .before .before .before .before .before .before .before .before .pre .1 .halvable), c .before .before .before .before .before .before .before .before .before .before .pre .1 .halvable .high)
+begins-with-add-begins-with-3 : (t : ℕ) → begins-with-lts.Need-add-begins-with-3 (callees t) (begins-with-at t) begins-with.Post
+begins-with-add-begins-with-3 t c = omega (arith, place-most (c .before .before .before .before .before .before .before .before .before .before .pre .1 .1 .piece))
 
 begins-with-begins-with-requires-2 : (t : ℕ) → begins-with-lts.Need-begins-with-requires-2 (callees t) (begins-with-at t) begins-with.Post
 begins-with-begins-with-requires-2 t c κs =
@@ -218,14 +194,14 @@ begins-with-begins-with-requires-2 t c κs =
     let s = c .before .before .before .before .before .before .before .before .before .before in
     let p = s .pre .1 in
     let f = fork-at t e in
-    rw (toZ-ofZ (s .fits .limit))
-    (omega (arith, s .pre .0, f .more), record { x-form = p .x-form; y-form = p .y-form; halvable = right-half (p .halvable) (f .more); short = f .right-ok; fits = rw (tail (width + width * b .before .begins-with .result) (s .args .s .now)) (simp length-drop (omega (arith, room t e, left-is t b .0))) })
+    rw (toZ-ofZ (s .fits .grain))
+    (omega (arith, s .pre .0, p .1 .piece .depth, f .more), (p .0, record { piece = right-half (p .1 .piece) (f .more); short = f .right-ok; fits = rw (tail (width + width * b .before .begins-with .result) (s .args .s .now)) (simp length-drop (omega (arith, room t e, left-is t b .0))) }))
 
 begins-with-returns-5 : (t : ℕ) → begins-with-lts.Need-returns-5 (callees t) (begins-with-at t) begins-with.Post
 begins-with-returns-5 t c =
     let s = c .before .before .before .before .before .before .before .before .before .before .before .before in
     let a = c .before .before .before .before .before .before .before .before .before .before .before in
-    no-right (s .args .limit) (form (s .args .cx)) (form (s .args .cy)) (s .args .left) (s .args .n) (s .args .m) (stripOf (a .piece-of .result .x) (a .piece-of .result .y)) (strip-is t a) (s .args .s .now) (fork-at t (c .before .before .before .before .before .before)) (refused (c .before .begins-with2 .result) (size (right-of t s)) (Begins (right-of t s) (drop (width + width * size (left-of t s)) (s .args .s .now))) (right-told t (c .before)) (size-pos (right-of t s)) (c .if5 .taken))
+    no-right (s .args .grain) (stripsOf (s .args .shape)) (s .args .d) (s .args .k) (stripOf (a .piece-of .result .x) (a .piece-of .result .y)) (strip-is t a) (s .args .s .now) (fork-at t (c .before .before .before .before .before .before)) (refused (c .before .begins-with2 .result) (size (right-of t s)) (Begins (right-of t s) (drop (width + width * size (left-of t s)) (s .args .s .now))) (right-told t (c .before)) (size-pos (right-of t s)) (c .if5 .taken))
 
 begins-with-add-nodes : (t : ℕ) → begins-with-lts.Need-add-nodes (callees t) (begins-with-at t) begins-with.Post
 begins-with-add-nodes t c = omega (arith, few-at t c)
@@ -255,14 +231,14 @@ begins-with-returns-6 t c =
     let k = c .before in
     let s = start t k in
     let a = k .before .before .before .before .before .before .before .before .before .before .before .before in
-    no-count (s .args .limit) (form (s .args .cx)) (form (s .args .cy)) (s .args .left) (s .args .n) (s .args .m) (stripOf (a .piece-of .result .x) (a .piece-of .result .y)) (strip-is t a) (s .args .s .now) (nodes t k) (ap size (fork-at t (k .before .before .before .before .before .before .before) .is)) (unless-true (k .differs-count2 .result) (getD (s .args .s .now) countPlace (pos 0) ≡ pos (nodes t k)) (count-told t k) (c .if6 .taken))
+    no-count (s .args .grain) (stripsOf (s .args .shape)) (s .args .d) (s .args .k) (stripOf (a .piece-of .result .x) (a .piece-of .result .y)) (strip-is t a) (s .args .s .now) (nodes t k) (ap size (fork-at t (k .before .before .before .before .before .before .before) .is)) (unless-true (k .differs-count2 .result) (getD (s .args .s .now) countPlace (pos 0) ≡ pos (nodes t k)) (count-told t k) (c .if6 .taken))
 
 begins-with-returns-7 : (t : ℕ) → begins-with-lts.Need-returns-7 (callees t) (begins-with-at t) begins-with.Post
 begins-with-returns-7 t c =
     let k = c .before in
     let s = start t k in
     let a = k .before .before .before .before .before .before .before .before .before .before .before .before in
-    rw (nodes-is t k) (yes-node (s .args .limit) (form (s .args .cx)) (form (s .args .cy)) (s .args .left) (s .args .n) (s .args .m) (stripOf (a .piece-of .result .x) (a .piece-of .result .y)) (strip-is t a) (s .args .s .now) (fork-at t (k .before .before .before .before .before .before .before)) (seven t s) (strip-at t (k .before .before .before .before .before .before .before .before)) (left-is t (k .before .before .before .before) .1) (right-is t (k .before) .1) (unless-false (k .differs-count2 .result) (getD (s .args .s .now) countPlace (pos 0) ≡ pos (nodes t k)) (count-told t k) (c .if6 .left)))
+    rw (nodes-is t k) (yes-node (s .args .grain) (stripsOf (s .args .shape)) (s .args .d) (s .args .k) (stripOf (a .piece-of .result .x) (a .piece-of .result .y)) (strip-is t a) (s .args .s .now) (fork-at t (k .before .before .before .before .before .before .before)) (seven t s) (strip-at t (k .before .before .before .before .before .before .before .before)) (left-is t (k .before .before .before .before) .1) (right-is t (k .before) .1) (unless-false (k .differs-count2 .result) (getD (s .args .s .now) countPlace (pos 0) ≡ pos (nodes t k)) (count-told t k) (c .if6 .left)))
 
 pub +begins-with-spec : {M : Type 1} → statement M
 +begins-with-spec = close μ-begins-with λ t. begins-with-lts.spec (callees t)
@@ -277,22 +253,19 @@ pub +begins-with-spec : {M : Type 1} → statement M
     (begins-with-sub-begins-with t)
     (begins-with-part-begins-with-start t)
     (begins-with-part-begins-with-end t)
-    (begins-with-sub-begins-with-2 t)
+    (begins-with-add-begins-with t)
     (begins-with-mul-begins-with t)
-    (begins-with-mul-begins-with-2 t)
-    (begins-with-sub-begins-with-3 t)
     (begins-with-begins-with-requires t)
     (begins-with-returns-4 t)
     (begins-with-mul-mid t)
     (begins-with-add-mid t)
-    (begins-with-mul-begins-with-3 t)
-    (begins-with-sub-begins-with-4 t)
+    (begins-with-mul-begins-with-2 t)
+    (begins-with-sub-begins-with-2 t)
     (begins-with-part-begins-with-start-2 t)
     (begins-with-part-begins-with-end-2 t)
-    (begins-with-sub-begins-with-5 t)
-    (begins-with-mul-begins-with-4 t)
-    (begins-with-mul-begins-with-5 t)
-    (begins-with-add-begins-with t)
+    (begins-with-add-begins-with-2 t)
+    (begins-with-mul-begins-with-3 t)
+    (begins-with-add-begins-with-3 t)
     (begins-with-begins-with-requires-2 t)
     (begins-with-returns-5 t)
     (begins-with-add-nodes t)

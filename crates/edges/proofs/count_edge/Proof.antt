@@ -1,32 +1,26 @@
 -- The walk that is counted is the model's tree. Assumes nothing.
 use mathlib.Core.Path.{ap, _∙_}
-use Rattle.subtrees.specs.Halving.{whole-edge}
+use mir.Facts.{toZ-ofZ}
+use Rattle.subtrees.specs.Subtrees.{whole-edge}
 use Rattle.subtrees.specs.Counts.{count}
-use Rattle.powers.specs.Structs.{form}
-use Rattle.edges.proofs.Whole.{limit, Made-of, made-of}
+use Rattle.model.specs.Jobs.{edgeAt}
+use Rattle.strips.specs.Structs.{stripsOf}
+use Rattle.edges.proofs.Whole.{whole-is}
 use borrow.Author.Needs.{needs}
 use Rattle.edges.proofs.count_edge.Statement.{statement}
 use Rattle.edges.proofs.count_edge.Tie as tie
 
-walk : (c : tie.After-power-of2) → let s = c .before .before in Made-of (s .args .grain) (s .args .places .now) (s .args .e) (form (c .before .power-of .result)) (form (c .power-of2 .result))
-walk c = let s = c .before .before in made-of (s .args .grain) (s .args .places .now) (s .args .e) _ _ (s .pre .0) (s .pre .2) (s .fits .grain) (c .before .power-of .ensures) (c .power-of2 .ensures)
-
-power-of-requires : tie.Need-power-of-requires
-power-of-requires c κs = search needs
-
-power-of-requires-2 : tie.Need-power-of-requires-2
-power-of-requires-2 c κs = search needs
-
-mul-nodes-of : tie.Need-mul-nodes-of
-mul-nodes-of c = let s = c .before .before in limit (s .args .grain) (s .pre .2) (s .fits .grain) .fits
+shape-of-requires : tie.Need-shape-of-requires
+shape-of-requires c κs = search needs
 
 nodes-of-requires : tie.Need-nodes-of-requires
-nodes-of-requires c κs = let w = walk c in (w .x-sized, w .y-sized, whole-edge)
+nodes-of-requires c κs = let s = c .before in (c .shape-of .ensures .1, whole-edge, rw (toZ-ofZ (s .fits .grain)) (s .pre .2))
 
 returns : tie.Need-returns
-returns c = c .nodes-of .ensures ∙ ap count (walk (c .before) .is)
+returns c =
+    let d = c .before in
+    let s = d .before in
+    c .nodes-of .ensures ∙ ap count (whole-is (s .args .grain) (edgeAt (s .args .places .now) (s .args .e)) (stripsOf (d .shape-of .result)) (s .fits .grain) (d .shape-of .ensures .0))
 
 pub count-edge-spec : {M : Type 1} → statement M
-count-edge-spec =
-    tie.close
-    (tie.spec power-of-requires power-of-requires-2 mul-nodes-of nodes-of-requires returns)
+count-edge-spec = tie.close (tie.spec shape-of-requires nodes-of-requires returns)

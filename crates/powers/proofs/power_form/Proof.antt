@@ -1,20 +1,21 @@
 -- Nothing wraps; each coefficient is the model's. Assumes nothing.
 use Rattle.powers.proofs.Records.{form-eq}
+use Rattle.ranges.specs.Sizes.{controlMost}
 use Rattle.integers.specs.Signed.{Made, arg, lit, plus, minus, times, back}
 use Rattle.powers.proofs.power_form.Statement.{statement}
 use Rattle.powers.proofs.power_form.Tie as tie
 
 module _ (s : tie.Start) where
-  b0 : Made (s .args .b0) (s .args .b0) 1000000
+  b0 : Made (s .args .b0) (s .args .b0) controlMost
   b0 = arg (s .pre .b0-size) (s .fits .b0)
 
-  b1 : Made (s .args .b1) (s .args .b1) 1000000
+  b1 : Made (s .args .b1) (s .args .b1) controlMost
   b1 = arg (s .pre .b1-size) (s .fits .b1)
 
-  b2 : Made (s .args .b2) (s .args .b2) 1000000
+  b2 : Made (s .args .b2) (s .args .b2) controlMost
   b2 = arg (s .pre .b2-size) (s .fits .b2)
 
-  b3 : Made (s .args .b3) (s .args .b3) 1000000
+  b3 : Made (s .args .b3) (s .args .b3) controlMost
   b3 = arg (s .pre .b3-size) (s .fits .b3)
 
 sub-c1 : tie.Need-sub-c1

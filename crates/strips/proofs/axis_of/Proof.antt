@@ -3,17 +3,18 @@ use mir.Facts.{toZ-ofZ}
 use Rattle.integers.specs.Signed.{Made, held, lit, widen, plus, times, back}
 use Rattle.integers.specs.Signed.{read64}
 use Rattle.strips.proofs.Records.{got}
-use Rattle.ranges.specs.PowerForm as pf
+use Rattle.model.specs.Strips as model
+use Rattle.ranges.specs.PowerForm.{c3Most, a1Most}
 use Rattle.powers.specs.Structs.{form}
 use borrow.Author.Needs.{needs}
 use Rattle.strips.proofs.axis_of.Statement.{statement}
 use Rattle.strips.proofs.axis_of.Tie as tie
 
 module _ (c : tie.After-struct-told) where
-  a1 : Made (c .before .a1-of .result) (pf.a1 (form (c .before .before .args .c)) (c .before .before .args .n) (c .before .before .args .m)) 226492416000000
+  a1 : Made (c .before .a1-of .result) (model.a1 (form (c .before .before .args .c)) (c .before .before .args .n) (c .before .before .args .m)) a1Most
   a1 = let s = c .before .before in let e = rw (toZ-ofZ (s .fits .n), toZ-ofZ (s .fits .m)) at (c .before .a1-of .ensures) in got (e .0) (e .1) tt
 
-  a3 : Made (c .before .before .args .c .c3) (c .before .before .args .c .c3) 8000000
+  a3 : Made (c .before .before .args .c .c3) (c .before .before .args .c .c3) c3Most
   a3 = held (c .before .before .args .c .c3) (c .before .before .pre .0 .c3-size) tt
 
 a1-of-requires : tie.Need-a1-of-requires

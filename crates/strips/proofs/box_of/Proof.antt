@@ -9,26 +9,27 @@ use Rattle.integers.specs.Absolute.{absℤ, abs-size}
 use lib.IntN.{ℤ, pos, natAbs, _*ℤ_}
 use Rattle.integers.specs.Rounding.{nearest}
 use Rattle.integers.specs.Signed.{Made, held, lit, widen, plus, times, back, called, sized}
-use Rattle.ranges.specs.PowerForm as pf
+use Rattle.model.specs.Strips as model
+use Rattle.ranges.specs.PowerForm.{c3Most, a2Most, secondMost, thirdMost}
 use Rattle.powers.specs.Structs.{form}
 use Rattle.strips.proofs.Records.{got}
 use borrow.Author.Needs.{needs}
 use Rattle.strips.proofs.box_of.Statement.{statement}
 use Rattle.strips.proofs.box_of.Tie as tie
 
-a2 : (c : tie.After-struct-told) → Made (c .before .a2-of .result) (pf.a2 (form (c .before .before .args .c)) (c .before .before .args .n) (c .before .before .args .m)) 73728000000
+a2 : (c : tie.After-struct-told) → Made (c .before .a2-of .result) (model.a2 (form (c .before .before .args .c)) (c .before .before .args .n) (c .before .before .args .m)) a2Most
 a2 c = let s = c .before .before in let e = rw (toZ-ofZ (s .fits .n), toZ-ofZ (s .fits .m)) at (c .before .a2-of .ensures) in got (e .0) (e .1) tt
 
-a3 : (c : tie.After-struct-told) → Made (c .before .before .args .c .c3) (c .before .before .args .c .c3) 8000000
+a3 : (c : tie.After-struct-told) → Made (c .before .before .args .c .c3) (c .before .before .args .c .c3) c3Most
 a3 c = held (c .before .before .args .c .c3) (c .before .before .pre .0 .c3-size) tt
 
-second : (c : tie.After-rounded) → Made (c .rounded .result) (pf.secondBy (form (c .before .before .before .args .c)) (c .before .before .before .args .n) (c .before .before .before .args .m) (natAbs (c .before .before .before .args .cube))) 1000000000
+second : (c : tie.After-rounded) → Made (c .rounded .result) (model.secondOf (form (c .before .before .before .args .c)) (c .before .before .before .args .n) (c .before .before .before .args .m) (natAbs (c .before .before .before .args .cube))) secondMost
 second c =
     let s = c .before .before .before in
     let e = rw (back (times (lit 8 tt) (a2 (c .before)) tt), toZ-ofZ (s .fits .cube)) at (c .rounded .ensures) in
     got e (rw e (s .pre .6)) tt
 
-third : (c : tie.After-rounded2) → Made (c .rounded2 .result) (nearest (pos 4 *ℤ c .before .before .before .before .args .c .c3) (natAbs (c .before .before .before .before .args .cube))) 1000000000
+third : (c : tie.After-rounded2) → Made (c .rounded2 .result) (nearest (pos 4 *ℤ c .before .before .before .before .args .c .c3) (natAbs (c .before .before .before .before .args .cube))) thirdMost
 third c =
     let s = c .before .before .before .before in
     let e = rw (back (times (lit 4 tt) (a3 (c .before .before)) tt), toZ-ofZ (s .fits .cube)) at (c .rounded2 .ensures) in
@@ -39,11 +40,11 @@ size : {r v z : ℤ} {B : ℕ} → Made v z B → r ≡ absℤ (toZ w64 (ofZ w64
 size {r} {v} {z} {B} m e t = called (e ∙ ap absℤ (back m)) (rw abs-size (m .within)) t
 
 first-size : (c : tie.After-abs) → let s = c .before .before .before .before .before in
-    Made (c .abs .result) (absℤ (pf.secondBy (form (s .args .c)) (s .args .n) (s .args .m) (natAbs (s .args .cube)))) 1000000000
+    Made (c .abs .result) (absℤ (model.secondOf (form (s .args .c)) (s .args .n) (s .args .m) (natAbs (s .args .cube)))) secondMost
 first-size c = size (second (c .before .before)) (c .abs .ensures) tt
 
 other-size : (c : tie.After-abs2) → let s = c .before .before .before .before .before .before in
-    Made (c .abs2 .result) (absℤ (pf.thirdBy (form (s .args .c)) (natAbs (s .args .cube)))) 1000000000
+    Made (c .abs2 .result) (absℤ (model.thirdOf (form (s .args .c)) (natAbs (s .args .cube)))) thirdMost
 other-size c = size (third (c .before .before)) (c .abs2 .ensures) tt
 
 a2-of-requires : tie.Need-a2-of-requires

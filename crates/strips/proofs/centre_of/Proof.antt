@@ -3,17 +3,18 @@ use mir.Facts.{toZ-ofZ}
 use Rattle.integers.specs.Signed.{Made, lit, widen, plus, times, back}
 use Rattle.integers.specs.Signed.{read64}
 use Rattle.strips.proofs.Records.{got}
-use Rattle.ranges.specs.PowerForm as pf
+use Rattle.model.specs.Strips as model
+use Rattle.ranges.specs.PowerForm.{a0Most, a2Most}
 use Rattle.powers.specs.Structs.{form}
 use borrow.Author.Needs.{needs}
 use Rattle.strips.proofs.centre_of.Statement.{statement}
 use Rattle.strips.proofs.centre_of.Tie as tie
 
 module _ (c : tie.After-a2-of) where
-  a0 : Made (c .before .a0-of .result) (pf.a0 (form (c .before .before .args .c)) (c .before .before .args .n) (c .before .before .args .m)) 231928233984000000
+  a0 : Made (c .before .a0-of .result) (model.a0 (form (c .before .before .args .c)) (c .before .before .args .n) (c .before .before .args .m)) a0Most
   a0 = let s = c .before .before in let e = rw (toZ-ofZ (s .fits .n), toZ-ofZ (s .fits .m)) at (c .before .a0-of .ensures) in got (e .0) (e .1) tt
 
-  a2 : Made (c .a2-of .result) (pf.a2 (form (c .before .before .args .c)) (c .before .before .args .n) (c .before .before .args .m)) 73728000000
+  a2 : Made (c .a2-of .result) (model.a2 (form (c .before .before .args .c)) (c .before .before .args .n) (c .before .before .args .m)) a2Most
   a2 = let s = c .before .before in let e = rw (toZ-ofZ (s .fits .n), toZ-ofZ (s .fits .m)) at (c .a2-of .ensures) in got (e .0) (e .1) tt
 
 a0-of-requires : tie.Need-a0-of-requires

@@ -5,7 +5,8 @@ use native.Mathlib.Omega.{arith}
 use lib.IntN.{pos}
 use Rattle.integers.specs.Signed.{Made, held, times, back}
 use Rattle.integers.specs.Signed.{read64}
-use Rattle.ranges.specs.PowerForm.{sideBy, cube-above, second-in, third-in}
+use Rattle.model.specs.Strips.{sideAt}
+use Rattle.ranges.specs.PowerForm.{nMost, cube-above, second-in, third-in}
 use Rattle.powers.specs.Structs.{form}
 use Rattle.strips.proofs.Records.{side-eq}
 use borrow.Author.Needs.{needs}
@@ -13,10 +14,10 @@ use Rattle.strips.proofs.extent_of.Statement.{statement}
 use Rattle.strips.proofs.extent_of.Tie as tie
 
 module _ (s : tie.Start) where
-  n : Made (pos (s .args .n)) (pos (s .args .n)) 2048
+  n : Made (pos (s .args .n)) (pos (s .args .n)) nMost
   n = held (pos (s .args .n)) (s .pre .2) tt
 
-  m : Made (pos (s .args .m)) (pos (s .args .m)) 2048
+  m : Made (pos (s .args .m)) (pos (s .args .m)) nMost
   m = held (pos (s .args .m)) (le-trans (s .pre .3) (s .pre .2)) tt
 
 cast-a : tie.Need-cast-a
@@ -47,7 +48,7 @@ box-of-requires c κs =
     rw (back (times (times (n s) (n s) tt) (n s) tt), back (n s), back (m s)) (s .pre .0, s .pre .2, (m s) .within, (times (times (n s) (n s) tt) (n s) tt) .within, cube-above (s .args .n) (s .pre .1), tt, omega (arith, second-in (form (s .args .c)) (s .args .n) (s .args .m) (s .pre .0) (s .pre .1) (s .pre .3)), omega (arith, third-in (form (s .args .c)) (s .args .n) (s .args .m) (s .pre .0) (s .pre .1) (s .pre .3)))
 
 returns : tie.Need-returns
-unfolding sideBy
+unfolding sideAt
 returns c =
     let s = c .before .before .before in
     let e = rw (back (times (times (n s) (n s) tt) (n s) tt), back (n s), back (m s)) at (c .before .before .centre-of .ensures) in
