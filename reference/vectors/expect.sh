@@ -2,8 +2,8 @@
 # Writes what the test programs must print, from this implementation: for each stored case its name and then the answer.
 set -eu
 cd "$(dirname "$0")/../.."
-(cd reference && cargo build --release --offline --quiet)
-answer=reference/target/release/clearance-reference
+cargo build --release --offline --quiet -p clearance_reference
+answer=build/release/clearance-reference
 
 # expect CRATE COMMAND
 expect() {
