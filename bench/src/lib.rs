@@ -1,10 +1,9 @@
-//! What the measurement compares: an unproved program with the same tricks as
-//! the proved one, the sampling of old, and the proved library behind its C
-//! symbols. The second implementation comes from `../reference`.
+//! What the measurement compares beside the proved library and the second
+//! implementation: the drawing of the proved one in plain Rust, and the sampling
+//! of old.
 
 #![warn(missing_docs)]
 
-pub mod calls;
 pub mod exact;
 pub mod same_tricks;
 pub mod sampling;

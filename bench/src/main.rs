@@ -19,10 +19,10 @@ const USAGE: &str = "\
 usage: clearance_bench [--program PATH] [--examples FOLDER] [--seconds S] [--steps K]
 
   --program PATH     the proved program, for the row of whole programs
-  --examples FOLDER  the job sheets to time (../examples)
+  --examples FOLDER  the job sheets to time (the repository's)
   --seconds S        time for each implementation in each line of a table (0.1)
   --steps K          steps an edge of the sampling (32)
-  --as NAME < SHEET  be one whole program: 'same tricks', reference or sampling
+  --as NAME < SHEET  be one whole program: reference or sampling
   --help             write this text
 
 Exit status: 0 done, 1 an answer is wrong or a file cannot be used, 2 bad usage.
@@ -31,8 +31,10 @@ Exit status: 0 done, 1 an answer is wrong or a file cannot be used, 2 bad usage.
 const NOTES: &str = "
 Each time is the median of 7 to 1,001 calls that take turns, less the clock's own: processor time from 0.1 ms on where
 the system tells it, else the wall clock. Store, map and sheet are cleared before each call, outside the clock.
-build    Every implementation draws the map of a plate of one cell, which is nearly all building: the proved library
-         has no entry for the trees alone. The sampling makes its polyline.
+build    Both libraries draw the map of a plate of one cell, which is nearly all building: the proved one has no entry for
+         the trees alone. The sampling makes its polyline.
+draw     The map without the building: the map's time less that of a plate of one cell. The same tricks draw from a
+         finished store, and are timed on both plates too. A map of one letter is left out: there is too little to time.
 point    Store and polyline are ready. All but the sampling check that the store holds the job's trees.
 program  A process from its start to the end of its output, on the wall clock.
 ";
@@ -71,7 +73,7 @@ fn asked(mut words: impl Iterator<Item = String>) -> Option<Asked> {
                     .filter(|steps| (1..=4_096).contains(steps))?;
             }
             "--as" => {
-                asked.whole = Some(Maker::named(&words.next()?).filter(|&m| m != Maker::Proved)?);
+                asked.whole = Some(Maker::program_named(&words.next()?)?);
             }
             "--help" => asked.help = true,
             _ => return None,
@@ -107,19 +109,18 @@ fn cases(asked: &Asked) -> Result<Vec<Case>, String> {
 /// Answers must be the same before it makes sense to time them.
 fn check(case: &Case) -> Result<(), String> {
     let wrong = |who: &str| Err(format!("{}: {who} gives another answer", case.name));
-    let mut store = vec![0; case.store.len()];
     let mut cells = vec![0; case.cells.len()];
-    let nodes = same_tricks::map(&case.job, &mut store, &mut cells);
-    if nodes != Ok(case.nodes) || store != case.store || cells != case.cells {
+    same_tricks::draw(&case.job, &case.store, &mut cells);
+    if cells != case.cells {
         return wrong("same tricks");
     }
     #[cfg(feature = "proved")]
     {
-        use clearance_bench::calls;
         let mut store = vec![0; case.store.len()];
-        let mut cells = vec![0; case.cells.len()];
-        let answer = calls::map(&calls::numbers(&case.job), &mut store, &mut cells);
-        if answer != (0, case.nodes) || store != case.store || cells != case.cells {
+        cells.fill(0);
+        let job = clearance::read(&case.sheet);
+        let nodes = job.and_then(|job| clearance::map(&job, &mut store, &mut cells));
+        if nodes != Ok(case.nodes) || store != case.store || cells != case.cells {
             return wrong("proved");
         }
     }

@@ -2,8 +2,6 @@
 
 use crate::timing::{timed, wall_time, Call};
 use crate::whole::spawn;
-#[cfg(feature = "proved")]
-use clearance_bench::calls;
 use clearance_bench::{same_tricks, sampling};
 use clearance_reference::{self as reference, Job};
 use std::hint::black_box;
@@ -13,30 +11,32 @@ use std::path::PathBuf;
 #[derive(Clone, Copy, Debug, PartialEq, Eq)]
 pub enum Maker {
     Proved,
-    SameTricks,
     Reference,
     Sampling,
+    SameTricks,
 }
 
 impl Maker {
     pub const ALL: [Maker; 4] = [
         Maker::Proved,
-        Maker::SameTricks,
         Maker::Reference,
         Maker::Sampling,
+        Maker::SameTricks,
     ];
 
     pub fn name(self) -> &'static str {
         match self {
             Maker::Proved => "proved",
-            Maker::SameTricks => "same tricks",
             Maker::Reference => "reference",
             Maker::Sampling => "sampling",
+            Maker::SameTricks => "same tricks",
         }
     }
 
-    pub fn named(name: &str) -> Option<Maker> {
-        Maker::ALL.into_iter().find(|maker| maker.name() == name)
+    /// The maker of this name that is a whole program in this crate.
+    pub fn program_named(name: &str) -> Option<Maker> {
+        let programs = [Maker::Reference, Maker::Sampling];
+        programs.into_iter().find(|maker| maker.name() == name)
     }
 }
 
@@ -47,16 +47,18 @@ pub enum Row {
     Write,
     Build,
     Map,
+    Draw,
     Point,
     Program,
 }
 
 impl Row {
-    pub const ALL: [Row; 6] = [
+    pub const ALL: [Row; 7] = [
         Row::Read,
         Row::Write,
         Row::Build,
         Row::Map,
+        Row::Draw,
         Row::Point,
         Row::Program,
     ];
@@ -67,6 +69,7 @@ impl Row {
             Row::Write => "write",
             Row::Build => "build",
             Row::Map => "map",
+            Row::Draw => "draw",
             Row::Point => "point",
             Row::Program => "program",
         }
@@ -86,6 +89,31 @@ pub struct Case {
     pub program: Option<PathBuf>,
     /// Steps an edge of the sampling.
     pub steps: usize,
+}
+
+/// The call of a row to a library. The proved one and the reference have the
+/// same four entries, each with a job of its own.
+macro_rules! library_call {
+    ($library:ident, $case:ident, $row:ident) => {{
+        let (x, y) = $case.spot();
+        let job = $library::read(&$case.sheet).ok()?;
+        let one_cell = $library::Job { n: 0, m: 0, ..job };
+        let map = |job: $library::Job| {
+            $case.with_memory(move |store, cells| $library::map(black_box(&job), store, cells))
+        };
+        let call: Call<'_> = match $row {
+            Row::Read => Box::new(|| timed(|| $library::read(black_box(&$case.sheet)))),
+            Row::Write => with_sheet(move |out| $library::write(black_box(&job), out)),
+            Row::Build => map(one_cell),
+            Row::Map => map(job),
+            Row::Draw => less(map(job), map(one_cell)),
+            Row::Point => Box::new(move || {
+                timed(|| $library::point(black_box(&job), x, y, black_box(&$case.store)))
+            }),
+            Row::Program => return None,
+        };
+        Some(call)
+    }};
 }
 
 impl Case {
@@ -127,8 +155,14 @@ impl Case {
         Job {
             n: 0,
             m: 0,
-            ..self.job.clone()
+            ..self.job
         }
+    }
+
+    /// Whether drawing is hardly any work beside building: a map of one letter
+    /// mostly is one block.
+    fn is_plain(&self) -> bool {
+        self.cells.iter().all(|&letter| letter == self.cells[0])
     }
 
     /// The call of a row, if this maker has it.
@@ -136,12 +170,25 @@ impl Case {
         if row == Row::Program {
             return self.program_call(maker);
         }
+        if row == Row::Draw && self.is_plain() {
+            return None;
+        }
         match maker {
             Maker::Proved => self.proved_call(row),
-            Maker::SameTricks => Some(self.same_tricks_call(row)),
-            Maker::Reference => Some(self.reference_call(row)),
+            Maker::Reference => library_call!(reference, self, row),
             Maker::Sampling => self.sampling_call(row),
+            Maker::SameTricks => self.same_tricks_call(row),
         }
+    }
+
+    #[cfg(feature = "proved")]
+    fn proved_call(&self, row: Row) -> Option<Call<'_>> {
+        library_call!(clearance, self, row)
+    }
+
+    #[cfg(not(feature = "proved"))]
+    fn proved_call(&self, _row: Row) -> Option<Call<'_>> {
+        None
     }
 
     fn program_call(&self, maker: Maker) -> Option<Call<'_>> {
@@ -149,8 +196,9 @@ impl Case {
         let (program, arguments) = match maker {
             Maker::Proved => (self.program.clone()?, vec![]),
             _ => {
+                let name = Maker::program_named(maker.name())?.name();
                 let this = std::env::current_exe().ok()?;
-                (this, vec!["--as", maker.name(), "--steps", &steps])
+                (this, vec!["--as", name, "--steps", &steps])
             }
         };
         let arguments: Vec<String> = arguments.into_iter().map(String::from).collect();
@@ -159,50 +207,20 @@ impl Case {
         }))
     }
 
-    fn same_tricks_call(&self, row: Row) -> Call<'_> {
-        let (x, y) = self.spot();
-        match row {
-            Row::Read => Box::new(|| timed(|| same_tricks::read(black_box(&self.sheet)))),
-            Row::Write => with_sheet(|out| same_tricks::write(black_box(&self.job), out)),
-            Row::Point => Box::new(move || {
-                timed(|| same_tricks::point(black_box(&self.job), x, y, black_box(&self.store)))
-            }),
-            _ => {
-                let job = self.row_job(row);
-                self.with_memory(move |store, cells| {
-                    same_tricks::map(black_box(&job), store, cells)
-                })
-            }
-        }
-    }
-
-    fn reference_call(&self, row: Row) -> Call<'_> {
-        let (x, y) = self.spot();
-        match row {
-            Row::Read => Box::new(|| timed(|| reference::read(black_box(&self.sheet)))),
-            Row::Write => with_sheet(|out| reference::write(black_box(&self.job), out)),
-            Row::Point => Box::new(move || {
-                timed(|| reference::point(black_box(&self.job), x, y, black_box(&self.store)))
-            }),
-            _ => {
-                let job = self.row_job(row);
-                self.with_memory(move |store, cells| reference::map(black_box(&job), store, cells))
-            }
-        }
-    }
-
     /// It has no sheets of its own. Its build is the polyline.
     fn sampling_call(&self, row: Row) -> Option<Call<'_>> {
         let (x, y) = self.spot();
         let spot = [f64::from(x), f64::from(y)];
         let steps = self.steps;
+        let map = |job: Job| -> Call<'_> {
+            Box::new(move || timed(|| sampling::map(black_box(&job), steps)))
+        };
         match row {
             Row::Build => Some(Box::new(move || {
                 timed(|| sampling::polyline(black_box(&self.job), steps))
             })),
-            Row::Map => Some(Box::new(move || {
-                timed(|| sampling::map(black_box(&self.job), steps))
-            })),
+            Row::Map => Some(map(self.job.clone())),
+            Row::Draw => Some(less(map(self.job.clone()), map(self.one_cell_job()))),
             Row::Point => {
                 let polyline = sampling::polyline(&self.job, steps);
                 Some(Box::new(move || {
@@ -213,36 +231,14 @@ impl Case {
         }
     }
 
-    #[cfg(not(feature = "proved"))]
-    fn proved_call(&self, _row: Row) -> Option<Call<'_>> {
-        None
-    }
-
-    #[cfg(feature = "proved")]
-    fn proved_call(&self, row: Row) -> Option<Call<'_>> {
-        let (x, y) = self.spot();
-        let job = calls::numbers(&self.row_job(row));
-        Some(match row {
-            Row::Read => Box::new(|| {
-                let mut job = [0; calls::JOB_NUMBERS];
-                let time = timed(|| calls::read(black_box(&self.sheet), &mut job));
-                black_box(job);
-                time
-            }),
-            Row::Write => with_sheet(move |out| calls::write(black_box(&job), out)),
-            Row::Point => Box::new(move || {
-                timed(|| calls::point(black_box(&job), x, y, black_box(&self.store)))
-            }),
-            _ => self.with_memory(move |store, cells| calls::map(black_box(&job), store, cells)),
-        })
-    }
-
-    fn row_job(&self, row: Row) -> Job {
-        if row == Row::Build {
-            self.one_cell_job()
-        } else {
-            self.job.clone()
-        }
+    /// They draw, and do nothing else.
+    fn same_tricks_call(&self, row: Row) -> Option<Call<'_>> {
+        let draw = |job: Job| {
+            self.with_memory(move |_, cells| {
+                same_tricks::draw(black_box(&job), black_box(&self.store), cells);
+            })
+        };
+        (row == Row::Draw).then(|| less(draw(self.job.clone()), draw(self.one_cell_job())))
     }
 
     /// A call with store and map, both cleared before it.
@@ -263,4 +259,10 @@ fn with_sheet<'a, T>(work: impl Fn(&mut [u8]) -> T + 'a) -> Call<'a> {
         out.fill(0);
         timed(|| work(black_box(&mut out)))
     })
+}
+
+/// What one call takes longer than another. The clock's own time cancels out, so
+/// it is added once, as every other call has it.
+fn less<'a>(mut call: Call<'a>, mut other: Call<'a>) -> Call<'a> {
+    Box::new(move || call().saturating_sub(other()) + timed(|| ()))
 }

@@ -2,7 +2,7 @@
 //! output.
 
 use crate::makers::Maker;
-use clearance_bench::{same_tricks, sampling};
+use clearance_bench::sampling;
 use clearance_reference::{listing, map, read, SHEET_LIMIT};
 use std::io::{self, Read, Write};
 use std::path::Path;
@@ -10,9 +10,6 @@ use std::process::{Command, Stdio};
 
 /// Runs as the whole program of one of the makers in this crate.
 pub fn run_as(maker: Maker, steps: usize) -> io::Result<()> {
-    if maker == Maker::SameTricks {
-        return same_tricks::run(&mut io::stdin(), &mut io::stdout());
-    }
     let mut sheet = Vec::new();
     io::stdin()
         .take(SHEET_LIMIT as u64 + 1)

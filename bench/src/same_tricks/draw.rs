@@ -4,14 +4,10 @@
 use super::search::{enough_for, search, tree_length, Answer};
 use clearance_reference::{Job, EDGE_LIMIT};
 
-/// The smallest cells a side.
-pub fn cells_a_side(job: &Job) -> usize {
-    1 << (job.n - job.m)
-}
-
-/// Draws the map of a legal job whose trees the store holds.
+/// Draws the map of a legal job. The store holds its trees, and there are bytes
+/// for all its cells.
 pub fn draw(job: &Job, store: &[i32], cells: &mut [u8]) {
-    let side = cells_a_side(job);
+    let side = 1 << (job.n - job.m);
     let half_side = 8_i64 << job.n;
     let mut starts = [0; EDGE_LIMIT];
     let mut at = 0;

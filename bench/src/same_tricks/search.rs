@@ -1,6 +1,6 @@
 //! What a tree says of a cell.
 
-use super::trees::NUMBERS_A_NODE;
+use clearance_reference::trees::NUMBERS_A_NODE;
 
 /// In the order of joining: the greater of two answers holds.
 #[derive(Clone, Copy, PartialEq, Eq, PartialOrd, Ord)]
