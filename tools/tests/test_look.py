@@ -133,6 +133,15 @@ class Look(unittest.TestCase):
         self.assertEqual((status, error), (0, ""))
         self.assertEqual(ElementTree.fromstring(svg).get("width"), "400")
 
+    def test_the_longest_map(self):
+        longest = striped_map(256)
+        self.assertEqual(len(longest), 67_339)
+        sheet = self.folder.file("s", SHEET.replace(b"(plate -8 -8 4)", b"(plate -8 -8 9)"))
+        self.assertEqual(self.look(sheet, self.folder.file("m", longest))[0], 0)
+        status, _, error = self.look(sheet, self.folder.file("m", longest + b"\n"))
+        self.assertEqual(status, 1)
+        self.assertIn("line 259, column 1", error)
+
     def test_what_cannot_be_used(self):
         for name, sheet, map_text, words in [
             ("refused map", SHEET, b"(refused 5)\n", "5 (long)"),
