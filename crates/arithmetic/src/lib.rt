@@ -1,13 +1,15 @@
 // The small functions on signed numbers and on slices of them that the code over strip trees shares.
 ghost use mathlib.Core.Path.{_≡_};
+ghost use mathlib.Core.Bool.{cond};
 ghost use mathlib.Core.List.{_∷_};
 ghost use Prim.Native.Nat.{_≤_, _<_};
 ghost use lib.Dec.{T};
 ghost use lib.IntN.{pos, natAbs};
 ghost use lib.ListN.{length, getD, drop};
-ghost use lib.Signed.{nonNeg, shrZ};
+ghost use lib.Signed.{nonNeg};
 ghost use Rattle.integers.specs.Absolute.{absℤ};
 ghost use Rattle.integers.specs.Rounding.{nearest};
+ghost use Rattle.integers.specs.Whole.{rest};
 ghost use Rattle.model.specs.Store.{width};
 
 // ---- a node in the store: how many numbers it has, where its node count stands, and where its left half's
@@ -27,22 +29,34 @@ pub fn abs(x: i64) -> i64
     if x < 0 { 0 - x } else { x }
 }
 
-// x / n rounded down. The machine's division goes toward zero, so a remainder below zero says that the quotient is one too high.
-fn floor_div(x: i64, n: i64) -> i64
-    requires sizes { ⌜ (natAbs x ≤ 8000000000000000000) × (0 < natAbs n) × T (nonNeg n) ⌝ }
-    ensures floor { λ r. ⌜ r ≡ shrZ x (natAbs n) ⌝ }
-{
-    let q = x / n;
-    let r = x % n;
-    if r < 0 { q - 1 } else { q }
+// A quotient: the whole number nearest to it, and whether it is that number.
+pub struct Quotient {
+    pub nearest: i64,
+    pub whole: bool,
 }
 
-// The whole number nearest to x / n, a half toward plus infinity: x / n + 1/2 rounded down.
-pub fn rounded(x: i64, n: i64) -> i64
+// The whole number nearest to x / n, a half toward plus infinity: x / n + 1/2 rounded down. The machine's division goes toward zero, so a
+// remainder below zero says that its quotient is one too high. x / n was whole just where a half is left.
+pub fn rounded(x: i64, n: i64) -> Quotient
     requires sizes { ⌜ (natAbs x ≤ 3900000000000000000) × (natAbs n ≤ 8589934592) × (0 < natAbs n) × T (nonNeg n) ⌝ }
-    ensures nearest { λ r. ⌜ r ≡ nearest x (natAbs n) ⌝ }
+    ensures nearest { λ r. ⌜ r .nearest ≡ nearest x (natAbs n) ⌝ }
+    ensures whole { λ r. ⌜ rest x (natAbs n) ≡ cond (r .whole) 0 1 ⌝ }
 {
-    floor_div(2 * x + n, 2 * n)
+    let y = 2 * x + n;
+    let d = 2 * n;
+    let q = y / d;
+    let r = y % d;
+    if r < 0 {
+        Quotient {
+            nearest: q - 1,
+            whole: r + d == n,
+        }
+    } else {
+        Quotient {
+            nearest: q,
+            whole: r == n,
+        }
+    }
 }
 
 pub fn narrow(x: i64) -> i32

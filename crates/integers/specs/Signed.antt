@@ -7,8 +7,8 @@ use mathlib.Core.Bool.{Bool, true, false, cond}
 use Prim.Native.Nat.{ℕ, zero, suc, _+_, _*_, _-_, _/_, _%_, _≤_, _<_, _^_, zero-le}
 use native.Mathlib.Nat.{le-refl, le-trans, lt-of-le-of-lt, mul-le-mul, add-le-add, zero-add, div-le-self, mod-le, mod-lt, div-add-mod', div-eq-of-lt-le}
 use native.Mathlib.Omega.{arith}
-use borrow.Author.Tests.{ltb-true, le-ltb}
-use lib.Dec.{T, ltb, leb, ltb→lt, leb→le}
+use borrow.Author.Tests.{ltb-true, le-ltb, eqb-true, eqb-false}
+use lib.Dec.{T, ltb, leb, eqb, ltb→lt, leb→le}
 use lib.IntN.{ℤ, pos, negsuc, negℤ, natAbs, subℕ, _+ℤ_, _-ℤ_, _*ℤ_}
 use lib.Signed.{mag, ltZ, nonNeg, pos-natAbs, quotZ, remZ, shrZ}
 use mir.Syntax.{w32, w64}
@@ -115,6 +115,12 @@ above-zero {d = d} b h = rw (b .is) h
 
 pub test-lt : {u v x y : ℤ} {A B : ℕ} {t : Bool} → Made u x A → Made v y B → ltZ (toZ w64 (ofZ w64 u)) (toZ w64 (ofZ w64 v)) ≡ t → ltZ x y ≡ t
 test-lt a b e = rw (back a, back b) at e
+
+pub test-eq : {u v x y : ℤ} {A B : ℕ} → Made u x A → Made v y B → eqb (ofZ w64 u) (ofZ w64 v) ≡ true → x ≡ y
+test-eq {u} {v} a b e = sym (back a) ∙ ap (toZ w64) (eqb-true (ofZ w64 u) (ofZ w64 v) e) ∙ back b
+
+pub test-ne : {u v x y : ℤ} {A B : ℕ} → Made u x A → Made v y B → eqb (ofZ w64 u) (ofZ w64 v) ≡ false → x ≡ y → ⊥
+test-ne {u} {v} a b e f = eqb-false (ofZ w64 u) (ofZ w64 v) e (ap (ofZ w64) (a .is ∙ f ∙ sym (b .is)))
 
 pub neg-abs : (x : ℤ) → ltZ x (pos 0) ≡ true → pos 0 -ℤ x ≡ pos (natAbs x)
 neg-abs (pos n) e = absurd (omega (arith, ltb-true n 0 e))

@@ -43,7 +43,8 @@ fn centre_of(c: Power, n: i64, m: i64, cube: i64) -> i64
 {
     let a0 = powers::a0_of(c, n, m);
     let a2 = powers::a2_of(c, n, m);
-    arithmetic::rounded(16 * a0 + 8 * a2, cube)
+    let q = arithmetic::rounded(16 * a0 + 8 * a2, cube);
+    q.nearest
 }
 
 fn axis_of(c: Power, n: i64, m: i64, cube: i64) -> i64
@@ -52,7 +53,8 @@ fn axis_of(c: Power, n: i64, m: i64, cube: i64) -> i64
 {
     let a1 = powers::a1_of(c, n, m);
     let a3 = c.c3;
-    arithmetic::rounded(16 * a1 + 12 * a3, cube)
+    let q = arithmetic::rounded(16 * a1 + 12 * a3, cube);
+    q.nearest
 }
 
 fn box_of(c: Power, n: i64, m: i64, cube: i64) -> i64
@@ -63,7 +65,7 @@ fn box_of(c: Power, n: i64, m: i64, cube: i64) -> i64
     let a3 = c.c3;
     let second = arithmetic::rounded(8 * a2, cube);
     let third = arithmetic::rounded(4 * a3, cube);
-    arithmetic::abs(second) + arithmetic::abs(third) + 2
+    arithmetic::abs(second.nearest) + arithmetic::abs(third.nearest) + 2
 }
 
 // the strip of the piece with N = n and the middle m, in one coordinate

@@ -46,11 +46,15 @@ short-is : (t : ℕ) (c : nodes-of-lts.After-piece-of (callees t) (nodes-of-at t
     c .piece-of .result .short ≡ short (s .args .grain) (stripsOf (s .args .shape) (s .args .d) (s .args .k))
 short-is t c = rw (toZ-ofZ (c .before .fits .grain)) at (c .piece-of .ensures .1 .1)
 
+-- there is a halving left
+not-last : (t : ℕ) (c : nodes-of-lts.Else2 (callees t) (nodes-of-at t) nodes-of.Post) → c .before .before .before .args .d ≡ deepest → ⊥
+not-last t c e = omega (arith, c .if2 .left, e)
+
 node-at : (t : ℕ) (c : nodes-of-lts.Else2 (callees t) (nodes-of-at t) nodes-of.Post) → let s = c .before .before .before in
     whole-of t s ≡ node (stripsOf (s .args .shape) (s .args .d) (s .args .k)) (left-of t s) (right-of t s)
 node-at t c =
     let s = c .before .before .before in
-    at-node (s .args .grain) (stripsOf (s .args .shape)) (s .args .d) (s .args .k) (sym (short-is t (c .before .before)) ∙ c .before .if1 .left) (s .pre .1 .1 .depth) (c .if2 .left)
+    at-node (s .args .grain) (stripsOf (s .args .shape)) (s .args .d) (s .args .k) (sym (short-is t (c .before .before)) ∙ c .before .if1 .left) (s .pre .1 .1 .depth) (not-last t c)
 
 left-is : (t : ℕ) (c : nodes-of-lts.After-nodes-of (callees t) (nodes-of-at t) nodes-of.Post) → c .nodes-of .result ≡ count (left-of t (c .before .before .before .before))
 left-is t c = let s = c .before .before .before .before in rw (toZ-ofZ (s .fits .grain)) at (c .nodes-of .ensures)
@@ -69,7 +73,7 @@ nodes-of-returns t c =
 nodes-of-returns-2 : (t : ℕ) → nodes-of-lts.Need-returns-2 (callees t) (nodes-of-at t) nodes-of.Post
 nodes-of-returns-2 t c =
     let s = c .before .before .before in
-    rw (at-long (s .args .grain) (stripsOf (s .args .shape)) (s .args .d) (s .args .k) (sym (short-is t (c .before .before)) ∙ c .before .if1 .left) (c .if2 .taken))
+    rw (at-long (s .args .grain) (stripsOf (s .args .shape)) (s .args .d) (s .args .k) (sym (short-is t (c .before .before)) ∙ c .before .if1 .left) (omega (arith, c .before .before .before .pre .1 .1 .depth, c .if2 .taken)))
 
 nodes-of-add-nodes-of : (t : ℕ) → nodes-of-lts.Need-add-nodes-of (callees t) (nodes-of-at t) nodes-of.Post
 nodes-of-add-nodes-of t c = omega (arith, c .before .before .before .pre .1 .1 .depth)
@@ -81,7 +85,7 @@ nodes-of-nodes-of-requires : (t : ℕ) → nodes-of-lts.Need-nodes-of-requires (
 nodes-of-nodes-of-requires t c κs =
     let s = c .before .before .before in
     let p = s .pre .1 in
-    (omega (arith, s .pre .0, p .1 .depth, c .if2 .left), (p .0, left-half (p .1) (c .if2 .left), rw (toZ-ofZ (s .fits .grain)) (p .2)))
+    (omega (arith, s .pre .0, p .1 .depth, not-last t c), (p .0, left-half (p .1) (not-last t c), rw (toZ-ofZ (s .fits .grain)) (p .2)))
 
 nodes-of-returns-3 : (t : ℕ) → nodes-of-lts.Need-returns-3 (callees t) (nodes-of-at t) nodes-of.Post
 nodes-of-returns-3 t c =
@@ -102,7 +106,7 @@ nodes-of-nodes-of-requires-2 : (t : ℕ) → nodes-of-lts.Need-nodes-of-requires
 nodes-of-nodes-of-requires-2 t c κs =
     let s = c .before .before .before .before .before in
     let p = s .pre .1 in
-    let z = c .before .before .if2 .left in
+    let z = not-last t (c .before .before) in
     (omega (arith, s .pre .0, p .1 .depth, z), (p .0, right-half (p .1) z, rw (toZ-ofZ (s .fits .grain)) (p .2)))
 
 nodes-of-returns-4 : (t : ℕ) → nodes-of-lts.Need-returns-4 (callees t) (nodes-of-at t) nodes-of.Post

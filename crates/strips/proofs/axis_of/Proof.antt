@@ -37,9 +37,10 @@ rounded-requires c κs =
 
 returns : tie.Need-returns
 returns c =
-    let s = c .before .before .before in
-    let t = (plus (times (lit 16 tt) (a1 (c .before)) tt) (times (lit 12 tt) (a3 (c .before)) tt) tt) in
-    rw (read64 (c .rounded .result) (c .rounded .ok)) (rw (back t, toZ-ofZ (s .fits .cube)) at (c .rounded .ensures))
+    let d = c .before in
+    let s = d .before .before .before in
+    let t = (plus (times (lit 16 tt) (a1 (d .before)) tt) (times (lit 12 tt) (a3 (d .before)) tt) tt) in
+    rw (read64 (d .rounded .result .nearest) (c .struct-told2 .given .0 .1)) (rw (back t, toZ-ofZ (s .fits .cube)) at (d .rounded .ensures .0))
 
 pub axis-of-spec : {M : Type 1} → statement M
 axis-of-spec =

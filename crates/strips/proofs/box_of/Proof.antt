@@ -23,29 +23,29 @@ a2 c = let s = c .before .before in let e = rw (toZ-ofZ (s .fits .n), toZ-ofZ (s
 a3 : (c : tie.After-struct-told) → Made (c .before .before .args .c .c3) (c .before .before .args .c .c3) c3Most
 a3 c = held (c .before .before .args .c .c3) (c .before .before .pre .0 .c3-size) tt
 
-second : (c : tie.After-rounded) → Made (c .rounded .result) (model.secondOf (form (c .before .before .before .args .c)) (c .before .before .before .args .n) (c .before .before .before .args .m) (natAbs (c .before .before .before .args .cube))) secondMost
+second : (c : tie.After-rounded) → Made (c .rounded .result .nearest) (model.secondOf (form (c .before .before .before .args .c)) (c .before .before .before .args .n) (c .before .before .before .args .m) (natAbs (c .before .before .before .args .cube))) secondMost
 second c =
     let s = c .before .before .before in
-    let e = rw (back (times (lit 8 tt) (a2 (c .before)) tt), toZ-ofZ (s .fits .cube)) at (c .rounded .ensures) in
+    let e = rw (back (times (lit 8 tt) (a2 (c .before)) tt), toZ-ofZ (s .fits .cube)) at (c .rounded .ensures .0) in
     got e (rw e (s .pre .6)) tt
 
-third : (c : tie.After-rounded2) → Made (c .rounded2 .result) (nearest (pos 4 *ℤ c .before .before .before .before .args .c .c3) (natAbs (c .before .before .before .before .args .cube))) thirdMost
+third : (c : tie.After-rounded2) → Made (c .rounded2 .result .nearest) (nearest (pos 4 *ℤ c .before .before .before .before .args .c .c3) (natAbs (c .before .before .before .before .args .cube))) thirdMost
 third c =
     let s = c .before .before .before .before in
-    let e = rw (back (times (lit 4 tt) (a3 (c .before .before)) tt), toZ-ofZ (s .fits .cube)) at (c .rounded2 .ensures) in
+    let e = rw (back (times (lit 4 tt) (a3 (c .before .before)) tt), toZ-ofZ (s .fits .cube)) at (c .rounded2 .ensures .0) in
     got e (rw e (s .pre .7)) tt
 
 -- the absolute value of a number that is at most B
 size : {r v z : ℤ} {B : ℕ} → Made v z B → r ≡ absℤ (toZ w64 (ofZ w64 v)) → T (ltb B (2 ^ 63)) → Made r (absℤ z) B
 size {r} {v} {z} {B} m e t = called (e ∙ ap absℤ (back m)) (rw abs-size (m .within)) t
 
-first-size : (c : tie.After-abs) → let s = c .before .before .before .before .before in
+first-size : (c : tie.After-abs) → let s = c .before .before .before .before .before .before in
     Made (c .abs .result) (absℤ (model.secondOf (form (s .args .c)) (s .args .n) (s .args .m) (natAbs (s .args .cube)))) secondMost
-first-size c = size (second (c .before .before)) (c .abs .ensures) tt
+first-size c = size (second (c .before .before .before)) (c .abs .ensures) tt
 
-other-size : (c : tie.After-abs2) → let s = c .before .before .before .before .before .before in
+other-size : (c : tie.After-abs2) → let s = c .before .before .before .before .before .before .before .before in
     Made (c .abs2 .result) (absℤ (model.thirdOf (form (s .args .c)) (natAbs (s .args .cube)))) thirdMost
-other-size c = size (third (c .before .before)) (c .abs2 .ensures) tt
+other-size c = size (third (c .before .before .before .before)) (c .abs2 .ensures) tt
 
 a2-of-requires : tie.Need-a2-of-requires
 a2-of-requires c κs = search needs
@@ -69,19 +69,19 @@ rounded-requires-2 c κs =
     rw (back t, toZ-ofZ (s .fits .cube)) ((widen 3900000000000000000 t tt) .within, s .pre .3, s .pre .4, s .pre .5)
 
 abs-requires : tie.Need-abs-requires
-abs-requires c κs = sized 4000000000000000000 (second (c .before)) tt
+abs-requires c κs = sized 4000000000000000000 (second (c .before .before)) tt
 
 abs-requires-2 : tie.Need-abs-requires-2
-abs-requires-2 c κs = sized 4000000000000000000 (third (c .before)) tt
+abs-requires-2 c κs = sized 4000000000000000000 (third (c .before .before .before)) tt
 
 add-result : tie.Need-add-result
-add-result c = (plus (first-size (c .before)) (other-size c) tt) .fits
+add-result c = (plus (first-size (c .before .before)) (other-size c) tt) .fits
 
 add-result-2 : tie.Need-add-result-2
-add-result-2 c = (plus (plus (first-size (c .before)) (other-size c) tt) (lit 2 tt) tt) .fits
+add-result-2 c = (plus (plus (first-size (c .before .before)) (other-size c) tt) (lit 2 tt) tt) .fits
 
 returns : tie.Need-returns
-returns c = back (plus (plus (first-size (c .before)) (other-size c) tt) (lit 2 tt) tt)
+returns c = back (plus (plus (first-size (c .before .before)) (other-size c) tt) (lit 2 tt) tt)
 
 pub box-of-spec : {M : Type 1} → statement M
 box-of-spec =

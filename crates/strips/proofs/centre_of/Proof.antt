@@ -40,9 +40,10 @@ rounded-requires c κs =
 
 returns : tie.Need-returns
 returns c =
-    let s = c .before .before .before in
-    let t = (plus (times (lit 16 tt) (a0 (c .before)) tt) (times (lit 8 tt) (a2 (c .before)) tt) tt) in
-    rw (read64 (c .rounded .result) (c .rounded .ok)) (rw (back t, toZ-ofZ (s .fits .cube)) at (c .rounded .ensures))
+    let d = c .before in
+    let s = d .before .before .before in
+    let t = (plus (times (lit 16 tt) (a0 (d .before)) tt) (times (lit 8 tt) (a2 (d .before)) tt) tt) in
+    rw (read64 (d .rounded .result .nearest) (c .struct-told .given .0 .1)) (rw (back t, toZ-ofZ (s .fits .cube)) at (d .rounded .ensures .0))
 
 pub centre-of-spec : {M : Type 1} → statement M
 centre-of-spec =
