@@ -9,8 +9,8 @@
  * Every function takes any numbers and any lengths, and gives an answer or a
  * refusal. None keeps anything between calls or asks for memory of its own.
  *
- * Units. Lengths and coordinates are whole hundredths of a millimetre. A fine
- * unit is a sixteenth of that; the store and the distances of a point are in
+ * Units. Lengths and coordinates are whole hundredths of a millimetre. Sixteen
+ * fine units make one of them; the store and the distances of a point are in
  * fine units, the distances squared.
  *
  * Lent memory. A pointer is aligned for its type and has at least as many

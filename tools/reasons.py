@@ -1,4 +1,4 @@
-"""Why a sheet is refused, in plain words and with the place: document 01, "Refused jobs"."""
+"""Why a sheet is refused, in plain words and with the place: RULES, "Refusals"."""
 
 from dataclasses import dataclass
 

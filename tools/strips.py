@@ -1,4 +1,4 @@
-"""The strips of an edge's pieces and its tree, in exact whole numbers: document 01, "Strips"."""
+"""The strips of an edge's pieces and its tree, in exact whole numbers: RULES, "Strips"."""
 
 from dataclasses import dataclass
 

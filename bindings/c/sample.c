@@ -1,5 +1,4 @@
-/* Reads the sample sheet of document 01, draws its map and prints it as the
- * program of document 01 does. */
+/* Reads the sample sheet, draws its map and prints it as the program does. */
 #include "clearance.h"
 
 #include <stdio.h>

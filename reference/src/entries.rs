@@ -1,6 +1,6 @@
-//! The four public entries, with lent memory as document 01 has it. Each one
-//! settles every refusal, in the order of document 01's "Refused jobs", before
-//! it writes anything lent.
+//! The four public entries, with lent memory as RULES, "Entries" has it.
+//! Each one settles every refusal, in the order of their numbers, before it
+//! writes anything lent.
 
 use crate::job::{judge_with_spot, Job};
 use crate::plate::{cells_a_side, draw};

@@ -1,5 +1,5 @@
-//! A cell against the trees: the tests and the joining of answers in document
-//! 01, "Exploring the plate".
+//! A cell against the trees: the tests and the joining of answers in RULES,
+//! "Explore".
 
 use crate::strips::Strip;
 use crate::trees::Tree;

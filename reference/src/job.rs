@@ -1,5 +1,5 @@
-//! The job and the ranges of its numbers: document 01, "The work and its
-//! edges", and rows 2 to 4 of "Refused jobs".
+//! The job and the ranges of its numbers: RULES, "Jobs", and rows
+//! 2 to 4 of "Refusals".
 
 use crate::refusal::Refusal;
 

@@ -1,5 +1,5 @@
-//! A second implementation of the clearance map, written from document 01
-//! alone. It favours code that is plainly right over code that is fast: the
+//! A second implementation of the clearance map, written from the rules
+//! alone and apart from the proved code. It favours code that is plainly right over code that is fast: the
 //! strips are worked out in `i128`, the trees are linked values and not
 //! numbers in a slice, and nothing is saved between calls.
 //!

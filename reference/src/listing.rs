@@ -1,5 +1,5 @@
-//! The texts the program prints. The map and the refusal are those of document
-//! 01, "The job sheet"; the store and the point are this program's own.
+//! The texts the program prints. The map and the refusal are those of RULES,
+//! "Printing"; the store and the point are this program's own.
 
 use crate::point::Nearest;
 use crate::refusal::Refusal;

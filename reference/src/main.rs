@@ -1,4 +1,4 @@
-//! The command-line program: document 01's program as `map`, and three more
+//! The command-line program: the rules' program as `map`, and four more
 //! commands for comparing it with another implementation.
 
 use clearance_reference::{judge_with_spot, listing, map, point, probe, read, trees, write};
@@ -6,9 +6,9 @@ use clearance_reference::{Refusal, SHEET_LIMIT};
 use std::io::{self, Read, Write};
 use std::process::ExitCode;
 
-/// Numbers of store the program lends, as document 01 has it.
+/// Numbers of store the program lends: RULES, "Printing".
 const LENT_NUMBERS: usize = 16_380;
-/// Bytes of map the program lends, as document 01 has it.
+/// Bytes of map the program lends: RULES, "Printing".
 const LENT_CELLS: usize = 65_536;
 
 const USAGE: &str = "\

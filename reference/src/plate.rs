@@ -1,5 +1,5 @@
 //! Drawing the map by quartering the plate, a quadtree that is never stored:
-//! the end of document 01, "Exploring the plate".
+//! RULES, "Plates".
 
 use crate::explore::{outline_answer, Answer, Cell};
 use crate::job::Job;

@@ -1,4 +1,4 @@
-//! Bounds on the distance of a point: document 01, "Distance of a point".
+//! Bounds on the distance of a point: RULES, "Distance".
 
 use crate::strips::Strip;
 use crate::trees::Tree;

@@ -1,4 +1,4 @@
-//! The eight refusals of document 01, section "Refused jobs".
+//! The eight refusals of RULES, "Refusals".
 
 use std::fmt;
 
@@ -36,7 +36,7 @@ impl Refusal {
         Refusal::Stranger,
     ];
 
-    /// The number document 01 gives it.
+    /// Its number.
     pub fn number(self) -> u8 {
         match self {
             Refusal::Form => 1,
@@ -50,7 +50,7 @@ impl Refusal {
         }
     }
 
-    /// The word document 01 gives it.
+    /// Its word.
     pub fn word(self) -> &'static str {
         match self {
             Refusal::Form => "form",

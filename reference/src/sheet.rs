@@ -1,4 +1,4 @@
-//! Reading and writing the job sheet: document 01, "The job sheet".
+//! Reading and writing the job sheet: RULES, "Sheets".
 
 use crate::job::{judge, Job, EDGE_LIMIT, NUMBERS_AN_EDGE};
 use crate::refusal::Refusal;

@@ -1,4 +1,4 @@
-//! The strip of a piece of an edge: document 01, "Strips".
+//! The strip of a piece of an edge: RULES, "Strips".
 
 /// Greatest depth a piece may have.
 pub const DEEPEST: u32 = 10;

@@ -1,5 +1,5 @@
-//! The tree of strips of an edge, and the numbers of the store: document 01,
-//! "Strips" for the halving and "The store" for the numbers.
+//! The tree of strips of an edge, and the numbers of the store: RULES, "Trees"
+//! for the halving and "Store" for the numbers.
 
 use crate::job::{judge, Job, NUMBERS_AN_EDGE};
 use crate::refusal::Refusal;

@@ -1,4 +1,4 @@
-//! Every line of document 01, "Figures to hold".
+//! Every line of RULES, "Figures".
 
 mod common;
 

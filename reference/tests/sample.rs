@@ -1,4 +1,4 @@
-//! The sample sheet and map of document 01, byte for byte.
+//! The sample sheet and its map, byte for byte.
 
 mod common;
 

@@ -1,4 +1,4 @@
-"""What the tests share: document 01's sample, the examples, and a way to run the tools."""
+"""What the tests share: the sample sheet, the examples, and a way to run the tools."""
 
 import subprocess
 import sys

@@ -1,4 +1,4 @@
-"""Explanations: the right number, the place and the sizes. The strips are held against document 01's figures."""
+"""Explanations: the right number, the place and the sizes. The strips are held against the worked figures."""
 
 import unittest
 

@@ -1,4 +1,4 @@
-//! The refusals, each with the number and the word of document 01.
+//! The refusals, each with its number and its word: RULES, "Refusals".
 
 use std::error::Error;
 use std::fmt;

@@ -14,6 +14,6 @@ x ^ℤ zero = pos 1
 x ^ℤ suc zero = x
 x ^ℤ suc (suc n) = x ^ℤ suc n *ℤ x
 
--- z over m, for m from 1 up, to the nearest whole number, a half toward plus infinity: the kit's `shrZ`, which rounds down, of z/m + 1/2
+-- z over m, for m from 1 up, to the nearest whole number, and up where two are as near: what the kit's `shrZ`, which rounds down, gives of z/m + 1/2
 abbrev pub nearest : ℤ → ℕ → ℤ
 nearest z m = shrZ (pos 2 *ℤ z +ℤ pos m) (2 * m)

@@ -1,4 +1,4 @@
-// How near and how far a point is from the upright box of a stored strip. Document 01, "Distance of a point".
+// How near and how far a point is from the upright box of a stored strip. RULES, "Distance".
 ghost use mathlib.Core.Path.{_≡_};
 ghost use Prim.Native.Nat.{_≤_, _<_};
 ghost use lib.IntN.{natAbs};

@@ -1,5 +1,5 @@
 // The library's face: four entries and nothing else. None asks anything of its caller; each has, for every argument, one permitted answer and
-// one permitted state of the memory lent, those that the definitions of `model` give. Document 01, "What the promises must say".
+// one permitted state of the memory lent, those that the definitions of `model` give. RULES, "Entries".
 use model::Job;
 use model::Map;
 use model::Nearest;

@@ -1,4 +1,4 @@
-// The bounds of a point's squared distance, from the leaves of the strip trees in a store. Document 01, "Distance of a point".
+// The bounds of a point's squared distance, from the leaves of the strip trees in a store. RULES, "Distance".
 use arithmetic::COUNT;
 use arithmetic::LEFT_COUNT;
 use arithmetic::WIDTH;

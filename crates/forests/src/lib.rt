@@ -1,4 +1,4 @@
-// A job's strip trees, edge after edge: counted, built into a store, and compared with one. Document 01, "The store".
+// A job's strip trees, edge after edge: counted, built into a store, and compared with one. RULES, "Store".
 use arithmetic::WIDTH;
 ghost use mathlib.Core.Path.{_≡_};
 ghost use mathlib.Core.Bool.{false, cond};

@@ -24,7 +24,7 @@ use Rattle.inheritance.specs.Edges.{EachInherits, part-settled}
 abbrev pub column : ℤ → ℕ → ℕ → ℤ
 column X i w = X +ℤ pos (i * w)
 
--- the smallest cell in column i and row j
+-- smallest cell (i, j), column before row
 abbrev pub smallest : ℕ → ℤ → ℤ → ℕ → ℕ → Cell
 smallest M X Y i j = square (column X i (2 ^ M)) (column Y j (2 ^ M)) (2 ^ M)
 

@@ -1,5 +1,5 @@
 // What the program prints, written into lent bytes: the line of a refusal, a map's first line, its rows and its end. Each writer takes a position
-// and gives the position after what it wrote. Document 01, "The job sheet".
+// and gives the position after what it wrote. RULES, "Sheets".
 use printing::put_bytes;
 ghost use mathlib.Core.Path.{_≡_};
 ghost use mathlib.Core.List.{[], _∷_};

@@ -1,4 +1,4 @@
--- Bytes, as numbers 0 to 255, and what a reader of them gives. Assumes nothing.
+-- RULES, "Bytes": bytes, as numbers 0 to 255, and what a reader of them gives. Assumes nothing.
 use mathlib.Core.Bool.{Bool, _&&_}
 use mathlib.Core.List.{List, [] as none-left, _∷_ as _then_}
 use Prim.Native.Nat.{ℕ}

@@ -1,4 +1,4 @@
--- Document 01, "Refused jobs": the table row by row, the case in which each refusal applies, said by itself and in no order. That an entry
+-- RULES, "Cases": the table of refusals row by row, each case said by itself and in no order. That an entry
 -- gives the lowest number that applies is a promise on these cases. Assumes nothing.
 use mathlib.Core.Path.{_≡_}
 use mathlib.Core.Bool.{true, false}

@@ -1,4 +1,4 @@
--- Document 01, "Distance of a point": the bounds of a point's squared distance, in fine units, and the edges that may be named. Assumes nothing.
+-- RULES, "Distance": the bounds of a point's squared distance, in fine units, and the edges that may be named. Assumes nothing.
 use mathlib.Core.Path.{_≡_}
 use mathlib.Core.Bool.{cond}
 use mathlib.Core.List.{List, [], _∷_, _++_}

@@ -1,4 +1,4 @@
--- Document 01, "The words of demand 3": the points of a cell and of the outline, the exact verdict and the doubtful band. Nothing here is
+-- RULES, "Exact": the points of a cell and of the outline, the exact verdict and the doubtful band. Nothing here is
 -- read from a store. Lengths are in hundredths of a millimetre. Assumes nothing.
 use mathlib.Core.Path.{_≡_}
 use mathlib.Core.List.{List, [], _∷_}
@@ -35,7 +35,7 @@ abbrev pub Outline : List Edge → Points
 Outline [] P = ⊥
 Outline (e ∷ es) P = Curve e P ⊎ Outline es P
 
--- ---- the points of the smallest cell in column i and row j, ends included, of side 2^M from the plate's corner (X, Y)
+-- ---- the points of smallest cell (i, j), column before row, its border included, of side 2^M from the plate's corner (X, Y)
 pub record Along (X : ℤ) (i n : ℕ) (a : Frac) : Type 0 where
   pub first : whole (X +ℤ pos (i * n)) ≤ᶠ a
   pub last : a ≤ᶠ whole (X +ℤ pos ((i + 1) * n))

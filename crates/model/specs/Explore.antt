@@ -1,4 +1,4 @@
--- Document 01, "Exploring the plate": what one strip says of a cell, and what a tree and several edges say. Assumes nothing.
+-- RULES, "Explore": what one strip says of a cell, and what a tree and several edges say. Assumes nothing.
 use mathlib.Core.Bool.{Bool, true, false, _||_}
 use mathlib.Core.List.{List, [], _∷_}
 use lib.IntN.{ℤ, pos, negsuc, natAbs, _+ℤ_, _-ℤ_, _*ℤ_}
@@ -74,7 +74,7 @@ byTests false false = maybe
 abbrev pub judged : ℤ → Cell → Strip → Answer
 judged r c S = byTests (isInside r c S) (isAway₁ r c S || isAway₂ r c S)
 
--- two answers joined: inside if one is, away if both are
+-- two answers as one: inside wins, away needs both
 abbrev pub join : Answer → Answer → Answer
 join inside b = inside
 join away b = b

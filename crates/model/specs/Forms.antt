@@ -1,4 +1,4 @@
--- Document 01, "The job sheet": the form of a line, its bytes with # (35) wherever a number stands. One writer and one reader serve every
+-- RULES, "Forms": the form of a line, its bytes with # (35) wherever a number stands. One writer and one reader serve every
 -- form, so that a kind of line is no more than its form. Assumes nothing.
 use mathlib.Core.Bool.{true, false}
 use mathlib.Core.List.{List, [], _∷_, _++_}

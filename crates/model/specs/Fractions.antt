@@ -1,8 +1,8 @@
--- Document 01, "The words of demand 3": fractions, and points whose coordinates are fractions. Assumes nothing.
+-- RULES, "Fractions": fractions, and points whose coordinates are fractions. Assumes nothing.
 use lib.IntN.{ℤ, pos, _+ℤ_, _-ℤ_, _*ℤ_}
 use Rattle.basics.specs.Orders.{_≼_, _≺_, num⁺, _⊠⁺_}
 
--- a whole number over a whole number from 1 up
+-- a whole number on top, and one above 0 below
 pub record Frac : Type 0 where
   pub top : ℤ
   pub low : ℤ

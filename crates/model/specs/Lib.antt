@@ -1,31 +1,31 @@
--- Document 01 as definitions, in its order and its terms. This, and `basics` before it, is what a reader has to believe; all else in the
--- repository is proved of it. The words that both are written in are the kit's: ℕ, ℤ, their operations and tests (`Prim.Native.Nat`,
+-- The rules as definitions: docs/RULES.md has a section for each file, in this order. This, and `basics` before it, is what a reader has to
+-- believe; all else in the repository is proved of it. The words that both are written in are the kit's: ℕ, ℤ, their operations and tests (`Prim.Native.Nat`,
 -- `lib.IntN`, `lib.Signed`, `lib.Dec`), lists (`mathlib.Core.List`, `lib.ListN`), equality and logic (`mathlib.Core`), a string's bytes.
--- Each file is one concern, with the section it stands for named at its head. Nothing here is proved beyond what a definition needs,
--- apart from the last file, in which document 01's worked figures hold of the definitions.
+-- Each file is one concern. Nothing here is proved beyond what a definition needs, apart from the last files, in which worked figures hold of
+-- the definitions.
 
--- ---- "Refused jobs": the numbers, and which one is given
+-- ---- the refusals: their numbers, and which one is given
 pub mod Refusals
--- ---- "The work and its edges": the job's limits, and its outline
+-- ---- the job's limits, and its outline
 pub mod Jobs
--- ---- "The job sheet": a number's text, a line, a layout of lines, the sheet
+-- ---- the job sheet: a number's text, a line, a layout of lines, the sheet
 pub mod Bytes
 pub mod Numbers
 pub mod Forms
 pub mod Layouts
 pub mod Sheets
--- ---- "Strips" and "The store"
+-- ---- strips, strip trees and the store
 pub mod Strips
 pub mod Trees
 pub mod Store
--- ---- "Exploring the plate"
+-- ---- exploring the plate
 pub mod Roots
 pub mod Explore
 pub mod Plates
--- ---- "The words of demand 3"
+-- ---- what a map means
 pub mod Fractions
 pub mod Exact
--- ---- "Distance of a point"
+-- ---- the distance of a point
 pub mod Distance
 -- ---- what each public entry answers and leaves, and the cases in which it refuses
 pub mod Entries
@@ -34,7 +34,7 @@ pub mod Cases
 pub mod Printing
 -- ---- what is proved of all this
 pub mod Promises
--- ---- "Figures to hold"
+-- ---- worked figures
 pub mod FigureTables
 pub mod Figures
 -- ---- figures on either side of each number and comparison, a file for each part above

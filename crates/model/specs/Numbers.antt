@@ -1,4 +1,4 @@
--- Document 01, "The job sheet": a number's text. An optional minus and one to seven digits, with no leading zero and no minus before 0.
+-- RULES, "Numbers": how a number is written, in seven decimal digits at the most, and how it is read back: exactly what is written, and nothing else.
 -- Assumes nothing.
 use mathlib.Core.Bool.{true, false, _&&_, not}
 use mathlib.Core.List.{List, [], _∷_, _++_}

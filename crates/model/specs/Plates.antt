@@ -1,4 +1,4 @@
--- Document 01, "Exploring the plate": the plate's quartering and the finished map. Assumes nothing.
+-- RULES, "Plates": the plate's quartering and the finished map. Assumes nothing.
 use mathlib.Core.Bool.{Bool, true, false}
 use mathlib.Core.List.{List}
 use Prim.Native.Nat.{ℕ, zero, suc, _-_, _*_, _^_}
@@ -43,7 +43,7 @@ settled inside v = within
 settled away v = clear
 settled maybe v = v
 
--- the verdict on the smallest cell in column i and row j of a square of 2^n columns of side 2^M, with its corner at (X, Y), for any way v to
+-- the verdict on smallest cell (i, j), column before row, of a square of 2^n columns of side 2^M, with its corner at (X, Y), for any way v to
 -- judge a strip for a cell
 unfoldable pub drawn : (Cell → Strip → Answer) → List Tree → ℕ → ℕ → ℤ → ℤ → ℕ → ℕ → Verdict
 drawn v ts M zero X Y i j = settled (exploreAll (v (square X Y (2 ^ M * 2 ^ 0))) ts) doubtful

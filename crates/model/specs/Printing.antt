@@ -1,4 +1,4 @@
--- Document 01, "The job sheet": what the program writes for its standard input. Assumes nothing.
+-- RULES, "Printing": what the program writes for its standard input. Assumes nothing.
 use mathlib.Core.List.{List, [], _∷_, _++_}
 use Prim.Native.Nat.{ℕ, zero, suc}
 use lib.IntN.{pos}

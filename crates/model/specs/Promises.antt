@@ -1,4 +1,4 @@
--- What is proved of the definitions: each promise as a named statement. docs/GUIDE.md says where each is proved.
+-- RULES, "Promises": what is proved of the definitions: each promise as a named statement. docs/GUIDE.md says where each is proved.
 -- Assumes nothing.
 use mathlib.Core.Path.{_≡_}
 use mathlib.Core.Bool.{false}

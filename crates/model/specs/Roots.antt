@@ -1,4 +1,4 @@
--- Document 01, "Exploring the plate": the smallest whole number whose square is at least n, as a function that computes by halving the digits:
+-- RULES, "Roots": the smallest whole number whose square is at least n, as a function that computes by halving the digits:
 -- with the root h of a quarter of n, rounded up, it is 2h − 1 or 2h. Assumes nothing.
 use mathlib.Core.Bool.{true, false}
 use Prim.Native.Nat.{ℕ, zero, suc, _+_, _*_, _-_, _/_}

@@ -1,4 +1,4 @@
--- Document 01, "The store": a job's trees as numbers, seven a node, in preorder. Assumes nothing.
+-- RULES, "Store": a job's trees as numbers, seven a node, in preorder. Assumes nothing.
 use mathlib.Core.Bool.{Bool, true, false, _&&_}
 use mathlib.Core.List.{List, [], _∷_, _++_}
 use Prim.Native.Nat.{ℕ, suc, _+_}

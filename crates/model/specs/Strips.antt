@@ -1,4 +1,4 @@
--- Document 01, "Strips": the strip of a piece of an edge, by affine arithmetic in whole numbers. Assumes nothing.
+-- RULES, "Strips": the strip of a piece of an edge, by affine arithmetic in whole numbers. Assumes nothing.
 use mathlib.Core.Bool.{Bool, _&&_}
 use Prim.Native.Nat.{ℕ, _+_, _*_, _^_}
 use lib.IntN.{ℤ, pos, _+ℤ_, _-ℤ_, _*ℤ_}
@@ -41,11 +41,11 @@ a2 c N m = c .c2 *ℤ N +ℤ pos 3 *ℤ c .c3 *ℤ m
 abbrev pub a3 : PowerForm → ℤ
 a3 c = c .c3
 
--- ---- quotients go to the nearest whole number, a half toward plus infinity, below zero too
+-- ---- how a quotient is rounded: up where it lies midway between two whole numbers, whatever its sign
 abbrev pub quotient : ℤ → ℕ → ℤ
 quotient x n = nearest x n
 
--- ---- strips: the segment from centre − axis to centre + axis, widened by the box; here in one coordinate, in fine units
+-- ---- strips: a slanted segment about the centre, the axis laid off both ways, thickened by the box; in one coordinate, in fine units
 pub record Side : Type 0 where
   pub centre : ℤ
   pub axis : ℤ

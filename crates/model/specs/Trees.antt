@@ -1,4 +1,4 @@
--- Document 01, "Strips": the strip tree of an edge. Assumes nothing.
+-- RULES, "Trees": the strip tree of an edge. Assumes nothing.
 use mathlib.Core.Bool.{Bool, true, false, _||_}
 use mathlib.Core.List.{List, [], _∷_}
 use Prim.Native.Nat.{ℕ, zero, suc, _+_, _*_}

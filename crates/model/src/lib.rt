@@ -1,4 +1,4 @@
-// The plain data that code and contracts share, by value. What each number means stands in specs/, in document 01's order.
+// The plain data that code and contracts share, by value. What each number means stands in specs/, in the order of docs/RULES.md.
 
 // A job: the plate's lower left corner, N, M, the reach, the grain, and the outline as a count of edges and 64 places of eight numbers.
 pub struct Job {

@@ -1,4 +1,4 @@
-// The power form of an edge in one coordinate, and a0 to a2 of its pieces. Document 01, "Strips".
+// The power form of an edge in one coordinate, and a0 to a2 of its pieces. RULES, "Strips".
 ghost use mathlib.Core.Path.{_≡_};
 ghost use Prim.Native.Nat.{_≤_};
 ghost use lib.IntN.{natAbs};

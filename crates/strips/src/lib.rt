@@ -1,4 +1,4 @@
-// The strip of a piece of an edge, from the edge's shape, in 64-bit numbers. Document 01, "Strips".
+// The strip of a piece of an edge, from the edge's shape, in 64-bit numbers. RULES, "Strips".
 use powers::Power;
 ghost use mathlib.Core.Path.{_≡_};
 ghost use Prim.Native.Nat.{_≤_, _<_};

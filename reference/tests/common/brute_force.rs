@@ -1,4 +1,4 @@
-//! The exact check of a finished map against document 01, "The words of demand
+//! The exact check of a finished map against RULES, "The words of demand
 //! 3". It knows nothing of strips, trees or stores: it evaluates the Bernstein
 //! form at the dyadic parameters k/1024 in whole numbers, and compares squares
 //! in `i128`.

@@ -10,7 +10,7 @@ pub mod random;
 
 use clearance_reference::{map, trees, Job, Refusal};
 
-/// The sample sheet of document 01.
+/// The sample sheet.
 pub const SAMPLE_SHEET: &str = "\
 (job
 (plate -8 -8 4)
@@ -21,7 +21,7 @@ pub const SAMPLE_SHEET: &str = "\
 )
 ";
 
-/// The map document 01 gives for it.
+/// Its map.
 pub const SAMPLE_MAP: &str = "\
 (map 8
 (row CCCCCCCC)
