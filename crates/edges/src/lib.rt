@@ -1,5 +1,5 @@
 // One edge of a job, by its place among the job's 512 numbers: its strip tree counted, built and checked.
-use powers::Power;
+use strips::Power;
 use strips::Shape;
 ghost use mathlib.Core.Path.{_≡_};
 ghost use mathlib.Core.List.{_++_};
@@ -14,8 +14,7 @@ ghost use Rattle.ranges.specs.Sizes.{grainMost};
 ghost use Rattle.ranges.specs.Jobs.{Limits};
 ghost use Rattle.subtrees.specs.Preorder.{Begins};
 ghost use Rattle.subtrees.specs.Counts.{count};
-ghost use Rattle.powers.specs.Structs.{form};
-ghost use Rattle.strips.specs.Structs.{stripsOf, ShapeSized};
+ghost use Rattle.strips.specs.Structs.{form, stripsOf, ShapeSized};
 ghost use Rattle.checking.specs.Answers.{Told};
 ghost use Rattle.edges.specs.Ready.{Ready};
 
@@ -36,7 +35,7 @@ fn power_of(places: &[i32; 512], e: usize, i: usize) -> Power
     let b1 = control(places, b + 2);
     let b2 = control(places, b + 4);
     let b3 = control(places, b + 6);
-    powers::power_form(b0, b1, b2, b3)
+    strips::power_form(b0, b1, b2, b3)
 }
 
 // the shape of edge e, whose strips are the edge's

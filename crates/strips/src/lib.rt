@@ -1,16 +1,22 @@
-// The strip of a piece of an edge, from the edge's shape, in 64-bit numbers. RULES, "Strips".
-use powers::Power;
+// The power form of an edge, and the strip of a piece of it, in 64-bit numbers. RULES, "Strips".
 ghost use mathlib.Core.Path.{_≡_};
 ghost use Prim.Native.Nat.{_≤_, _<_};
 ghost use lib.Dec.{T};
 ghost use lib.IntN.{natAbs};
 ghost use lib.Signed.{nonNeg};
-ghost use Rattle.model.specs.Strips.{centreOf, axisOf, secondOf, thirdOf, boxOf, sideAt, fits, short};
-ghost use Rattle.ranges.specs.Sizes.{grainMost, SideSized, Sized};
-ghost use Rattle.ranges.specs.PowerForm.{FormSized, nMost, cubeMost, secondMost, thirdMost};
+ghost use Rattle.model.specs.Strips.{powerOf, a0, a1, a2, centreOf, axisOf, secondOf, thirdOf, boxOf, sideAt, fits, short};
+ghost use Rattle.ranges.specs.Sizes.{grainMost, ControlSized, SideSized, Sized};
+ghost use Rattle.ranges.specs.PowerForm.{FormSized, nMost, cubeMost, a0Most, a1Most, a2Most, secondMost, thirdMost};
 ghost use Rattle.subtrees.specs.Subtrees.{PieceAt};
-ghost use Rattle.powers.specs.Structs.{form};
-ghost use Rattle.strips.specs.Structs.{side, stripOf, stripsOf, ShapeSized};
+ghost use Rattle.strips.specs.Structs.{cubic, form, side, stripOf, stripsOf, ShapeSized};
+
+// The power form in one coordinate.
+pub struct Power {
+    pub c0: i64,
+    pub c1: i64,
+    pub c2: i64,
+    pub c3: i64,
+}
 
 // What an edge's strips are made from: here its power form in both coordinates. Code over pieces hands it on and looks no further.
 pub struct Shape {
@@ -35,14 +41,61 @@ pub struct Piece {
 // the depth of the smallest pieces
 pub const DEEPEST: usize = 10;
 
+pub fn power_form(b0: i64, b1: i64, b2: i64, b3: i64) -> Power
+    requires sizes { ⌜ ControlSized (cubic b0 b1 b2 b3) ⌝ }
+    ensures power { λ r. ⌜ form r ≡ powerOf (cubic b0 b1 b2 b3) ⌝ }
+{
+    let c1 = 3 * (b1 - b0);
+    let c2 = 3 * (b0 - 2 * b1 + b2);
+    let c3 = b3 - 3 * b2 + 3 * b1 - b0;
+    Power {
+        c0: b0,
+        c1: c1,
+        c2: c2,
+        c3: c3,
+    }
+}
+
+// ---- a0 to a2 of the piece with N = n and the middle m; a3 is c3. Each says how large it is: a caller multiplies it.
+
+fn a0_of(c: Power, n: i64, m: i64) -> i64
+    requires sizes { ⌜ FormSized (form c) × (natAbs n ≤ nMost) × (natAbs m ≤ nMost) ⌝ }
+    ensures a0 { λ r. ⌜ (r ≡ a0 (form c) n m) × (natAbs r ≤ a0Most) ⌝ }
+{
+    let c0 = c.c0;
+    let c1 = c.c1;
+    let c2 = c.c2;
+    let c3 = c.c3;
+    c0 * (n * n * n) + c1 * (n * n) * m + c2 * n * (m * m) + c3 * (m * m * m)
+}
+
+fn a1_of(c: Power, n: i64, m: i64) -> i64
+    requires sizes { ⌜ FormSized (form c) × (natAbs n ≤ nMost) × (natAbs m ≤ nMost) ⌝ }
+    ensures a1 { λ r. ⌜ (r ≡ a1 (form c) n m) × (natAbs r ≤ a1Most) ⌝ }
+{
+    let c1 = c.c1;
+    let c2 = c.c2;
+    let c3 = c.c3;
+    c1 * (n * n) + 2 * c2 * n * m + 3 * c3 * (m * m)
+}
+
+fn a2_of(c: Power, n: i64, m: i64) -> i64
+    requires sizes { ⌜ FormSized (form c) × (natAbs n ≤ nMost) × (natAbs m ≤ nMost) ⌝ }
+    ensures a2 { λ r. ⌜ (r ≡ a2 (form c) n m) × (natAbs r ≤ a2Most) ⌝ }
+{
+    let c2 = c.c2;
+    let c3 = c.c3;
+    c2 * n + 3 * c3 * m
+}
+
 // ---- the four quotients by N³, a power of two, and the box
 
 fn centre_of(c: Power, n: i64, m: i64, cube: i64) -> i64
     requires sizes { ⌜ FormSized (form c) × (natAbs n ≤ nMost) × (natAbs m ≤ nMost) × (natAbs cube ≤ cubeMost) × (0 < natAbs cube) × T (nonNeg cube) ⌝ }
     ensures centre { λ r. ⌜ r ≡ centreOf (form c) n m (natAbs cube) ⌝ }
 {
-    let a0 = powers::a0_of(c, n, m);
-    let a2 = powers::a2_of(c, n, m);
+    let a0 = a0_of(c, n, m);
+    let a2 = a2_of(c, n, m);
     let q = arithmetic::rounded(16 * a0 + 8 * a2, cube);
     q.nearest
 }
@@ -51,7 +104,7 @@ fn axis_of(c: Power, n: i64, m: i64, cube: i64) -> i64
     requires sizes { ⌜ FormSized (form c) × (natAbs n ≤ nMost) × (natAbs m ≤ nMost) × (natAbs cube ≤ cubeMost) × (0 < natAbs cube) × T (nonNeg cube) ⌝ }
     ensures axis { λ r. ⌜ r ≡ axisOf (form c) n m (natAbs cube) ⌝ }
 {
-    let a1 = powers::a1_of(c, n, m);
+    let a1 = a1_of(c, n, m);
     let a3 = c.c3;
     let q = arithmetic::rounded(16 * a1 + 12 * a3, cube);
     q.nearest
@@ -61,7 +114,7 @@ fn box_of(c: Power, n: i64, m: i64, cube: i64) -> i64
     requires sizes { ⌜ FormSized (form c) × (natAbs n ≤ nMost) × (natAbs m ≤ nMost) × (natAbs cube ≤ cubeMost) × (0 < natAbs cube) × T (nonNeg cube) × (natAbs (secondOf (form c) n m (natAbs cube)) ≤ secondMost) × (natAbs (thirdOf (form c) (natAbs cube)) ≤ thirdMost) ⌝ }
     ensures half { λ r. ⌜ r ≡ boxOf (form c) n m (natAbs cube) ⌝ }
 {
-    let a2 = powers::a2_of(c, n, m);
+    let a2 = a2_of(c, n, m);
     let a3 = c.c3;
     let second = arithmetic::rounded(8 * a2, cube);
     let third = arithmetic::rounded(4 * a3, cube);

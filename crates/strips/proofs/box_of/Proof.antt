@@ -11,7 +11,7 @@ use Rattle.integers.specs.Rounding.{nearest}
 use Rattle.integers.specs.Signed.{Made, held, lit, widen, plus, times, back, called, sized}
 use Rattle.model.specs.Strips as model
 use Rattle.ranges.specs.PowerForm.{c3Most, a2Most, secondMost, thirdMost}
-use Rattle.powers.specs.Structs.{form}
+use Rattle.strips.specs.Structs.{form}
 use Rattle.strips.proofs.Records.{got}
 use borrow.Author.Needs.{needs}
 use Rattle.strips.proofs.box_of.Statement.{statement}

@@ -5,7 +5,7 @@ use Rattle.integers.specs.Signed.{read64}
 use Rattle.strips.proofs.Records.{got}
 use Rattle.model.specs.Strips as model
 use Rattle.ranges.specs.PowerForm.{a0Most, a2Most}
-use Rattle.powers.specs.Structs.{form}
+use Rattle.strips.specs.Structs.{form}
 use borrow.Author.Needs.{needs}
 use Rattle.strips.proofs.centre_of.Statement.{statement}
 use Rattle.strips.proofs.centre_of.Tie as tie

@@ -11,8 +11,7 @@ use Rattle.model.specs.Trees.{deepest}
 use Rattle.ranges.specs.Sizes.{Sized}
 use Rattle.ranges.specs.PowerForm.{nMost, by-sized}
 use Rattle.subtrees.specs.Subtrees.{PieceAt}
-use Rattle.powers.specs.Structs.{form}
-use Rattle.strips.specs.Structs.{stripOf, stripsOf}
+use Rattle.strips.specs.Structs.{form, stripOf, stripsOf}
 use Rattle.strips.proofs.piece_of.Statement.{statement}
 use Rattle.strips.proofs.piece_of.Tie as tie
 

@@ -1,9 +1,9 @@
 -- Nothing wraps, by the sizes of the coefficients and of N. Assumes nothing.
 use Rattle.integers.specs.Signed.{lit, plus, times, back}
-use Rattle.powers.specs.Structs.{form}
-use Rattle.powers.proofs.Records.{Given, given}
-use Rattle.powers.proofs.a1_of.Statement.{statement}
-use Rattle.powers.proofs.a1_of.Tie as tie
+use Rattle.strips.specs.Structs.{form}
+use Rattle.strips.proofs.Coefficients.{Given, given}
+use Rattle.strips.proofs.a1_of.Statement.{statement}
+use Rattle.strips.proofs.a1_of.Tie as tie
 
 numbers : (s : tie.Start) → Given (form (s .args .c)) (s .args .n) (s .args .m)
 numbers s = given (form (s .args .c)) (s .args .n) (s .args .m) (s .pre .0) (s .pre .1) (s .pre .2) (s .fits .n) (s .fits .m)

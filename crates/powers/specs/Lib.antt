@@ -1,2 +1,0 @@
--- What the code's struct stands for.
-pub mod Structs
