@@ -20,7 +20,7 @@ use Rattle.subtrees.specs.Preorder.{Begins, BeginsAll, length-flatten, later, j
 use Rattle.subtrees.specs.Begins.{begins-all, all-begins}
 use Rattle.subtrees.specs.Counts.{count, lost}
 use Rattle.subtrees.specs.Sizes.{few-nodes}
-use Rattle.edges.specs.Ready.{Ready}
+use Rattle.forests.specs.Ready.{Ready}
 use Rattle.forests.specs.Walk.{treesFrom, Ahead, Whole, from-first, more-is, Says}
 
 -- ---- counting

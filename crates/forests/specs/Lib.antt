@@ -1,2 +1,3 @@
--- The trees of a job's edges from some edge on.
+-- What the walks over one edge ask for, and the trees of a job's edges from some edge on.
+pub mod Ready
 pub mod Walk

@@ -1,17 +1,88 @@
 // A job's strip trees, edge after edge: counted, built into a store, and compared with one. RULES, "Store".
 use arithmetic::WIDTH;
+use strips::Power;
+use strips::Shape;
 ghost use mathlib.Core.Path.{_≡_};
-ghost use mathlib.Core.Bool.{false, cond};
 ghost use mathlib.Core.List.{_++_};
-ghost use Prim.Native.Nat.{_+_, _*_, _≤_};
-ghost use lib.IntN.{natAbs};
-ghost use lib.ListN.{length, drop};
-ghost use Rattle.model.specs.Jobs.{edgesFrom};
-ghost use Rattle.model.specs.Trees.{trees, anyLong};
-ghost use Rattle.model.specs.Store.{width, sizes, flattenAll, begins};
+ghost use mathlib.Core.Bool.{false, cond};
+ghost use Prim.Native.Nat.{_+_, _*_, _≤_, _<_};
+ghost use lib.IntN.{pos, natAbs};
+ghost use lib.ListN.{length, getD, drop};
+ghost use Rattle.model.specs.Jobs.{cubicAt, edgeAt, edgesFrom};
+ghost use Rattle.model.specs.Strips.{powerOf, strip};
+ghost use Rattle.model.specs.Trees.{tree, trees, anyLong};
+ghost use Rattle.model.specs.Store.{width, size, flatten, sizes, flattenAll, begins};
+ghost use Rattle.ranges.specs.Sizes.{grainMost};
 ghost use Rattle.ranges.specs.Jobs.{Limits, GrainSized};
-ghost use Rattle.subtrees.specs.Preorder.{BeginsAll};
+ghost use Rattle.subtrees.specs.Preorder.{Begins, BeginsAll};
+ghost use Rattle.subtrees.specs.Counts.{count};
+ghost use Rattle.strips.specs.Structs.{form, stripsOf, ShapeSized};
+ghost use Rattle.checking.specs.Answers.{Told};
+ghost use Rattle.forests.specs.Ready.{Ready};
 ghost use Rattle.forests.specs.Walk.{treesFrom, Ahead, Whole, Says};
+
+// ---- one edge, by its place among the job's 512 numbers
+
+fn control(places: &[i32; 512], i: usize) -> i64
+    requires within { ⌜ i < 512 ⌝ }
+    ensures element { λ r. ⌜ r ≡ getD (now (places .entry)) i (pos 0) ⌝ }
+{
+    places[i] as i64
+}
+
+// the power form of edge e in coordinate i
+fn power_of(places: &[i32; 512], e: usize, i: usize) -> Power
+    requires limits { ⌜ Limits (now places) × (e < 64) × (i < 2) ⌝ }
+    ensures power { λ r. ⌜ form r ≡ powerOf (cubicAt (now (places .entry)) (8 * e + i)) ⌝ }
+{
+    let b = 8 * e + i;
+    let b0 = control(places, b);
+    let b1 = control(places, b + 2);
+    let b2 = control(places, b + 4);
+    let b3 = control(places, b + 6);
+    strips::power_form(b0, b1, b2, b3)
+}
+
+// the shape of edge e, whose strips are the edge's
+fn shape_of(places: &[i32; 512], e: usize) -> Shape
+    requires limits { ⌜ Limits (now places) × (e < 64) ⌝ }
+    ensures strips { λ r. ⌜ stripsOf r ≡ strip (edgeAt (now (places .entry)) e) ⌝ }
+    ensures sized { λ r. ⌜ ShapeSized r ⌝ }
+{
+    let x = power_of(places, e, 0);
+    let y = power_of(places, e, 1);
+    Shape { x: x, y: y }
+}
+
+// ---- a whole edge is piece 0 of depth 0
+
+// the nodes of the tree of edge e, or 0 if it is long
+fn count_edge(places: &[i32; 512], e: usize, grain: i64) -> usize
+    requires limits { ⌜ Limits (now places) × (e < 64) × (natAbs grain ≤ grainMost) ⌝ }
+    ensures counted { λ r. ⌜ r ≡ count (tree grain (edgeAt (now (places .entry)) e)) ⌝ }
+{
+    let shape = shape_of(places, e);
+    counting::nodes_of(shape, 0, 0, grain)
+}
+
+// writes the tree of edge e at the front of s, and returns its nodes
+fn build_edge(s: &mut [i32], places: &[i32; 512], e: usize, grain: i64) -> usize
+    requires ready { ⌜ Ready grain (now places) e (length (now s)) ⌝ }
+    ensures nodes { λ r. ⌜ r ≡ size (tree grain (edgeAt (now (places .entry)) e)) ⌝ }
+    ensures written { λ _. ⌜ now (s .exit) ≡ flatten (tree grain (edgeAt (now (places .entry)) e)) ++ drop (width * size (tree grain (edgeAt (now (places .entry)) e))) (now (s .entry)) ⌝ }
+{
+    let shape = shape_of(places, e);
+    building::build(s, shape, 0, 0, grain)
+}
+
+// the nodes of the tree of edge e if s begins with it, and 0 otherwise
+fn check_edge(s: &[i32], places: &[i32; 512], e: usize, grain: i64) -> usize
+    requires ready { ⌜ Ready grain (now places) e (length (now s)) ⌝ }
+    ensures told { λ r. ⌜ Told r (size (tree grain (edgeAt (now (places .entry)) e))) (Begins (tree grain (edgeAt (now (places .entry)) e)) (now (s .entry))) ⌝ }
+{
+    let shape = shape_of(places, e);
+    checking::begins_with(s, shape, 0, 0, grain)
+}
 
 // ---- from edge e on
 
@@ -23,7 +94,7 @@ fn count_from(places: &[i32; 512], e: usize, count: usize, grain: i64, sum: usiz
     if e == count {
         return sum;
     }
-    let k = edges::count_edge(places, e, grain);
+    let k = count_edge(places, e, grain);
     if k == 0 {
         return 0;
     }
@@ -38,7 +109,7 @@ fn build_from(s: &mut [i32], places: &[i32; 512], e: usize, count: usize, grain:
     if e == count {
         return;
     }
-    let k = edges::build_edge(s, places, e, grain);
+    let k = build_edge(s, places, e, grain);
     let at = WIDTH * k;
     build_from(&mut s[at..], places, e + 1, count, grain);
 }
@@ -51,7 +122,7 @@ fn holds_from(s: &[i32], places: &[i32; 512], e: usize, count: usize, grain: i64
     if e == count {
         return true;
     }
-    let k = edges::check_edge(s, places, e, grain);
+    let k = check_edge(s, places, e, grain);
     if k == 0 {
         return false;
     }

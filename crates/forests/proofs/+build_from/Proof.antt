@@ -18,7 +18,7 @@ use borrow.Fn.PlainCycle.{Measures, is, falls, and}
 use Rattle.forests.proofs.build_from.Reads as build-from
 use Rattle.forests.proofs.build_from.Kinds as build-from-kinds
 use Rattle.forests.proofs.+build_from.Lts-build_from as build-from-lts
-use Rattle.edges.proofs.build_edge.Reads as build-edge-reads
+use Rattle.forests.proofs.build_edge.Reads as build-edge-reads
 use Rattle.forests.proofs.+build_from.{statement}
 use Rattle.forests.proofs.+build_from.Tie.{close}
 

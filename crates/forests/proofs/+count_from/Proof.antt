@@ -18,7 +18,7 @@ use borrow.Fn.PlainCycle.{Measures, is, falls, and}
 use Rattle.forests.proofs.count_from.Reads as count-from
 use Rattle.forests.proofs.count_from.Kinds as count-from-kinds
 use Rattle.forests.proofs.+count_from.Lts-count_from as count-from-lts
-use Rattle.edges.proofs.count_edge.Reads as count-edge-reads
+use Rattle.forests.proofs.count_edge.Reads as count-edge-reads
 use Rattle.forests.proofs.+count_from.{statement}
 use Rattle.forests.proofs.+count_from.Tie.{close}
 

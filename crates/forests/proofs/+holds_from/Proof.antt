@@ -18,7 +18,7 @@ use borrow.Fn.PlainCycle.{Measures, is, falls, and}
 use Rattle.forests.proofs.holds_from.Reads as holds-from
 use Rattle.forests.proofs.holds_from.Kinds as holds-from-kinds
 use Rattle.forests.proofs.+holds_from.Lts-holds_from as holds-from-lts
-use Rattle.edges.proofs.check_edge.Reads as check-edge-reads
+use Rattle.forests.proofs.check_edge.Reads as check-edge-reads
 use Rattle.forests.proofs.+holds_from.{statement}
 use Rattle.forests.proofs.+holds_from.Tie.{close}
 

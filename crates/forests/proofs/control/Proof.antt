@@ -6,8 +6,8 @@ use mir.Syntax.{w32}
 use mir.Val.{SFits}
 use mir.Facts.{toZ-ofZ, sfits-widen}
 use borrow.Author.Needs.{needs}
-use Rattle.edges.proofs.control.Statement.{statement}
-use Rattle.edges.proofs.control.Tie as tie
+use Rattle.forests.proofs.control.Statement.{statement}
+use Rattle.forests.proofs.control.Tie as tie
 
 elem : (c : tie.After-result) → SFits w32 (getD (c .before .args .places .now) (c .before .args .i) (pos 0))
 elem c = sfits-of (c .result .given)

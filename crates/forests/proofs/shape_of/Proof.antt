@@ -7,8 +7,8 @@ use Rattle.ranges.specs.PowerForm.{FormSized, form-sized}
 use Rattle.ranges.specs.Jobs.{edge-sized}
 use Rattle.strips.specs.Structs.{stripsOf}
 use borrow.Author.Needs.{needs}
-use Rattle.edges.proofs.shape_of.Statement.{statement}
-use Rattle.edges.proofs.shape_of.Tie as tie
+use Rattle.forests.proofs.shape_of.Statement.{statement}
+use Rattle.forests.proofs.shape_of.Tie as tie
 
 power-of-requires : tie.Need-power-of-requires
 power-of-requires c κs = search needs

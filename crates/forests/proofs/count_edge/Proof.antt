@@ -5,10 +5,10 @@ use Rattle.subtrees.specs.Subtrees.{whole-edge}
 use Rattle.subtrees.specs.Counts.{count}
 use Rattle.model.specs.Jobs.{edgeAt}
 use Rattle.strips.specs.Structs.{stripsOf}
-use Rattle.edges.proofs.Whole.{whole-is}
+use Rattle.forests.proofs.Whole.{whole-is}
 use borrow.Author.Needs.{needs}
-use Rattle.edges.proofs.count_edge.Statement.{statement}
-use Rattle.edges.proofs.count_edge.Tie as tie
+use Rattle.forests.proofs.count_edge.Statement.{statement}
+use Rattle.forests.proofs.count_edge.Tie as tie
 
 shape-of-requires : tie.Need-shape-of-requires
 shape-of-requires c κs = search needs

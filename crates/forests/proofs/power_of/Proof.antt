@@ -7,8 +7,8 @@ use mathlib.Core.Path.{_≡_}
 use Rattle.integers.specs.Signed.{Made, called, sized, back}
 use Rattle.ranges.specs.Jobs.{Limits}
 use borrow.Author.Needs.{needs}
-use Rattle.edges.proofs.power_of.Statement.{statement}
-use Rattle.edges.proofs.power_of.Tie as tie
+use Rattle.forests.proofs.power_of.Statement.{statement}
+use Rattle.forests.proofs.power_of.Tie as tie
 
 read : {l : List ℤ} {r : ℤ} (i : ℕ) → Limits l → r ≡ getD l i (pos 0) → Made r (getD l i (pos 0)) 1000000
 read i h e = called e (h .within i) tt
