@@ -4,7 +4,7 @@ use mathlib.Core.List.{List, _++_}
 use Prim.Native.Nat.{ℕ, _+_, _-_, _*_, _/_, _%_, _^_, _≤_, _<_, zero-le}
 use native.Mathlib.Nat.{le-trans, mul-comm, mul-assoc, mul-le-mul-right, div-add-mod', mod-lt, le-div-iff-mul-le}
 use native.Mathlib.Omega.{arith}
-use lib.Dec.{T, leb→le}
+use lib.Dec.{T}
 use lib.Pow.{pow-mono, pow-pos}
 use lib.IntN.{ℤ, pos, negsuc, natAbs, _+ℤ_, _-ℤ_, _*ℤ_}
 use lib.Signed.{mag, nonNeg}
@@ -24,7 +24,8 @@ use Rattle.model.specs.Store.{forest}
 use Rattle.model.specs.Explore.{Cell, judged, exploreAll}
 use Rattle.model.specs.Plates.{doubtful, letter, settled, columns, mapped, mapOf}
 use Rattle.model.specs.Entries.{over as written}
-use Rattle.verdicts.specs.Legal.{Between, Coordinate, legal}
+use Rattle.ranges.specs.Legal.{coordinate-size, Natural, natural, legal}
+use Rattle.ranges.specs.Cells.{few-levels}
 use Rattle.verdicts.specs.Quartering.{plate-side}
 use Rattle.verdicts.specs.DemandThree.{forest-covers}
 use Rattle.inheritance.specs.Reach.{reach-judges}
@@ -41,63 +42,33 @@ use Rattle.drawing.specs.Ready.{FrameSized, Ready, MapReady}
 use Rattle.drawing.proofs.Cells.{nonneg-times}
 
 -- ---- ranges as sizes
-coordinate-size : (z : ℤ) → Coordinate z → natAbs z ≤ 1000000
-coordinate-size (pos n) h = ≼-pos (h .to)
-coordinate-size (negsuc n) h = let k : n ≤ 999999 = leb→le n 999999 (h .from .le) in omega arith
-
-up-to : (z : ℤ) (b : ℕ) → Between (pos 0) (pos b) z → natAbs z ≤ b
-up-to (pos n) b h = ≼-pos (h .to)
-up-to (negsuc n) b h = absurd (h .from .le)
-
-pub record Above (z : ℤ) (b : ℕ) : Type 0 where
-  pub most : natAbs z ≤ b
-  pub some : 0 < natAbs z
-  pub nonneg : T (nonNeg z)
-
-from-one : (z : ℤ) (b : ℕ) → Between (pos 1) (pos b) z → Above z b
-from-one (pos n) b h = record { most = ≼-pos (h .to); some = let k : 1 ≤ n = ≼-pos (h .from) in omega arith; nonneg = tt }
-from-one (negsuc n) b h = absurd (h .from .le)
-
 logs-le : (a b : ℤ) → pos 0 ≼ a → a ≼ b → natAbs a ≤ natAbs b
 logs-le (pos m) (pos n) h k = ≼-pos k
 logs-le (pos m) (negsuc n) h k = absurd (k .le)
 logs-le (negsuc m) b h k = absurd (h .le)
 
-logs-few : (a b : ℤ) → pos 0 ≼ a → pos 0 ≼ b → b -ℤ a ≼ pos 8 → natAbs b - natAbs a ≤ 8
-logs-few (pos m) (pos n) h k l = let e : n ≤ m + 8 = ≼-pos (across (pos m) (pos n) l) in omega arith
-  where
-    across : (a b : ℤ) → b -ℤ a ≼ pos 8 → b ≼ a +ℤ pos 8
-    across a b = name₂ a b λ σ p q. simp (p, q, reify, σ) (omega zarith)
-logs-few (negsuc m) b h k l = absurd (h .le)
-logs-few (pos m) (negsuc n) h k l = absurd (k .le)
-
 -- what a legal job's numbers say of its frames
 pub record Numbers (j : Job) : Type 0 where
   pub corner-x : natAbs (j .x) ≤ 1000000
   pub corner-y : natAbs (j .y) ≤ 1000000
-  pub plate-above : T (nonNeg (j .n))
-  pub plate-size : plateLog j ≤ 20
-  pub cell-above : T (nonNeg (j .m))
+  pub plate : Natural 0 20 (j .n)
+  pub cell : Natural 0 20 (j .m)
   pub cell-size : cellLog j ≤ plateLog j
   pub few : plateLog j - cellLog j ≤ 8
-  pub reach : Above (j .reach) 1000000
-
-above-zero : (z : ℤ) (b : ℕ) → Between (pos 0) (pos b) z → T (nonNeg z)
-above-zero (pos n) b h = tt
-above-zero (negsuc n) b h = absurd (h .from .le)
+  pub reach : Natural 1 1000000 (j .reach)
 
 pub job-numbers : (j : Job) → judge j ≡ 0 → Numbers j
 job-numbers j good =
     let l = legal j good in
+    let i = l .in-range in
     record {
-      corner-x = coordinate-size (j .x) (l .corner-x);
-      corner-y = coordinate-size (j .y) (l .corner-y);
-      plate-above = above-zero (j .n) 20 (l .plate);
-      plate-size = up-to (j .n) 20 (l .plate);
-      cell-above = above-zero (j .m) 20 (l .cell);
-      cell-size = logs-le (j .m) (j .n) (l .cell .from) (l .within-plate);
-      few = logs-few (j .m) (j .n) (l .cell .from) (l .plate .from) (l .few);
-      reach = from-one (j .reach) 1000000 (l .reach-in);
+      corner-x = coordinate-size (j .x) (i .x-in);
+      corner-y = coordinate-size (j .y) (i .y-in);
+      plate = natural (j .n) (i .n-in);
+      cell = natural (j .m) (i .m-in);
+      cell-size = logs-le (j .m) (j .n) (i .m-in .from) (l .cell-fits);
+      few = few-levels j l;
+      reach = natural (j .reach) (i .reach-in);
     }
 
 -- an exponent read back from its bits
@@ -115,13 +86,13 @@ columns-few j good = pow-mono (job-numbers j good .few)
 pub unit-size : (j : Job) → judge j ≡ 0 → 8 * 2 ^ cellLog j ≤ 8388608
 unit-size j good =
     let s = job-numbers j good in
-    let k : cellLog j ≤ 20 = omega (arith, s .cell-size, s .plate-size) in
+    let k : cellLog j ≤ 20 = omega (arith, s .cell-size, s .plate .most) in
     omega (arith, pow-mono k)
 
 pub side-size : (j : Job) → judge j ≡ 0 → columns j * (8 * 2 ^ cellLog j) ≤ 8388608
 side-size j good =
     let s = job-numbers j good in
-    side (columns j) (2 ^ cellLog j) (2 ^ plateLog j) (mul-comm (columns j) (2 ^ cellLog j) ∙ plate-side (plateLog j) (cellLog j) (s .cell-size)) (pow-mono (s .plate-size))
+    side (columns j) (2 ^ cellLog j) (2 ^ plateLog j) (mul-comm (columns j) (2 ^ cellLog j) ∙ plate-side (plateLog j) (cellLog j) (s .cell-size)) (pow-mono (s .plate .most))
   where
     side : (a b p : ℕ) → a * b ≡ p → p ≤ 2 ^ 20 → a * (8 * b) ≤ 8388608
     side a b p e h = omega arith
@@ -143,7 +114,7 @@ frame-sized j good row h =
       side-size = side-size j good;
       reach-sized = record {
         r-size = omega (arith, natAbs-mul (pos 16) (j .reach), s .reach .most);
-        r-above = omega (arith, natAbs-mul (pos 16) (j .reach), s .reach .some);
+        r-above = omega (arith, natAbs-mul (pos 16) (j .reach), s .reach .least);
         r-nonneg = nonneg-times 16 (j .reach) (s .reach .nonneg);
       };
     }
@@ -157,7 +128,7 @@ module _ (j : Job) (cells : List ℕ) (store : List ℤ) (h : MapReady j cells s
   held = record { many = forest-many j; begins = h .begins; sized = h .sized }
 
   pub count-most : j .count ≤ 64
-  count-most = legal j (h .accepted) .most
+  count-most = legal j (h .accepted) .few
 
   pub whole-ready : (list : List ℕ) → length list ≡ 64 → Starts store (take (j .count) list) (forest j) → Ready store list (j .count) (frameOf j 0) 0 0 (columns j)
   whole-ready list l s = record {
@@ -172,7 +143,7 @@ module _ (j : Job) (cells : List ℕ) (store : List ℤ) (h : MapReady j cells s
 
 -- ---- the letters
 pub inherits : (j : Job) → judge j ≡ 0 → EachInherits (judged (pos 16 *ℤ j .reach)) (forest j)
-inherits j good = covered-inherits (judged (pos 16 *ℤ j .reach)) (reach-judges (pos 16 *ℤ j .reach) (num 16 ⊠ ≼-trans (num 1) (legal j good .reach-in .from))) (forest-covers j)
+inherits j good = covered-inherits (judged (pos 16 *ℤ j .reach)) (reach-judges (pos 16 *ℤ j .reach) (num 16 ⊠ ≼-trans (num 1) (legal j good .in-range .reach-in .from))) (forest-covers j)
 
 -- row k of the rows from one row on
 higher : (Y q R K : ℤ) → Y +ℤ pos 2 *ℤ R *ℤ q +ℤ (pos 2 *ℤ K +ℤ pos 1) *ℤ q ≡ Y +ℤ (pos 2 *ℤ (R +ℤ K) +ℤ pos 1) *ℤ q

@@ -1,5 +1,8 @@
 // The map of a job from a store that holds its trees: the plate is quartered, a block that its open trees settle is filled at once, and each
 // quarter of any other asks only the trees that are still open.
+use model::CLEAR;
+use model::DOUBTFUL;
+use model::INSIDE;
 use model::Job;
 ghost use mathlib.Core.Path.{_≡_};
 ghost use mathlib.Core.Bool.{true, false};
@@ -96,20 +99,20 @@ fn settle(
     let seen = look(store, list, count, keep, frame, c, r, w);
     if seen.inside {
         return Told {
-            letter: 73,
+            letter: INSIDE,
             kept: 0,
         };
     }
     let kept = seen.kept;
     if kept == 0 {
         return Told {
-            letter: 67,
+            letter: CLEAR,
             kept: 0,
         };
     }
     if w == 1 {
         return Told {
-            letter: 68,
+            letter: DOUBTFUL,
             kept: 0,
         };
     }

@@ -1,3 +1,4 @@
 -- What the walks over one edge ask for, and the trees of a job's edges from some edge on.
 pub mod Ready
 pub mod Walk
+pub mod Told

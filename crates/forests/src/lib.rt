@@ -1,5 +1,8 @@
-// A job's strip trees, edge after edge: counted, built into a store, and compared with one. RULES, "Store".
+// A job's strip trees, edge after edge: counted, built into a store, compared with one, and refused. RULES, "Store".
 use arithmetic::WIDTH;
+use model::LONG;
+use model::STORE;
+use model::STRANGER;
 use strips::Power;
 use strips::Shape;
 ghost use mathlib.Core.Path.{_≡_};
@@ -8,6 +11,7 @@ ghost use mathlib.Core.Bool.{false, cond};
 ghost use Prim.Native.Nat.{_+_, _*_, _≤_, _<_};
 ghost use lib.IntN.{pos, natAbs};
 ghost use lib.ListN.{length, getD, drop};
+ghost use Rattle.model.specs.Refusals.{check, first, stranger};
 ghost use Rattle.model.specs.Jobs.{cubicAt, edgeAt, edgesFrom};
 ghost use Rattle.model.specs.Strips.{powerOf, strip};
 ghost use Rattle.model.specs.Trees.{tree, trees, anyLong};
@@ -17,9 +21,10 @@ ghost use Rattle.ranges.specs.Jobs.{Limits, GrainSized};
 ghost use Rattle.subtrees.specs.Preorder.{Begins, BeginsAll};
 ghost use Rattle.subtrees.specs.Counts.{count};
 ghost use Rattle.strips.specs.Structs.{form, stripsOf, ShapeSized};
-ghost use Rattle.checking.specs.Answers.{Told};
+ghost use Rattle.checking.specs.Answers.{Told as Found};
 ghost use Rattle.forests.specs.Ready.{Ready};
 ghost use Rattle.forests.specs.Walk.{treesFrom, Ahead, Whole, Says};
+ghost use Rattle.forests.specs.Told.{Told};
 
 // ---- one edge, by its place among the job's 512 numbers
 
@@ -78,7 +83,7 @@ fn build_edge(s: &mut [i32], places: &[i32; 512], e: usize, grain: i64) -> usize
 // the nodes of the tree of edge e if s begins with it, and 0 otherwise
 fn check_edge(s: &[i32], places: &[i32; 512], e: usize, grain: i64) -> usize
     requires ready { ⌜ Ready grain (now places) e (length (now s)) ⌝ }
-    ensures told { λ r. ⌜ Told r (size (tree grain (edgeAt (now (places .entry)) e))) (Begins (tree grain (edgeAt (now (places .entry)) e)) (now (s .entry))) ⌝ }
+    ensures told { λ r. ⌜ Found r (size (tree grain (edgeAt (now (places .entry)) e))) (Begins (tree grain (edgeAt (now (places .entry)) e)) (now (s .entry))) ⌝ }
 {
     let shape = shape_of(places, e);
     checking::begins_with(s, shape, 0, 0, grain)
@@ -154,4 +159,44 @@ pub fn holds_all(store: &[i32], places: &[i32; 512], count: usize, grain: i32) -
     ensures begins { λ r. ⌜ r ≡ begins (now (store .entry)) (flattenAll (trees grain (edgesFrom (now (places .entry)) count 0))) ⌝ }
 {
     holds_from(store, places, 0, count, grain as i64)
+}
+
+// ---- the refusals of a job's trees
+
+// The refusal's number or 0, and where it is 0, the nodes of the job's trees.
+pub struct Checked {
+    pub refusal: u8,
+    pub nodes: usize,
+}
+
+// refusals 5 and 6, for a store of so many numbers
+pub fn check_trees(places: &[i32; 512], count: usize, grain: i32, numbers: usize) -> Checked
+    requires limits { ⌜ Limits (now places) × (1 ≤ count) × (count ≤ 64) × GrainSized grain ⌝ }
+    ensures told { λ r. ⌜ Told (trees grain (edgesFrom (now (places .entry)) count 0)) numbers r ⌝ }
+{
+    let nodes = count_nodes(places, count, grain);
+    if nodes == 0 {
+        return Checked {
+            refusal: LONG,
+            nodes: 0,
+        };
+    }
+    if numbers < WIDTH * nodes {
+        return Checked {
+            refusal: STORE,
+            nodes: 0,
+        };
+    }
+    Checked { refusal: 0, nodes }
+}
+
+// refusal 8
+pub fn check_store(store: &[i32], places: &[i32; 512], count: usize, grain: i32) -> u8
+    requires ready { ⌜ Whole grain (now places) count (length (now store)) ⌝ }
+    ensures refusal { λ r. ⌜ r ≡ first (check stranger (begins (now (store .entry)) (flattenAll (trees grain (edgesFrom (now (places .entry)) count 0))))) ⌝ }
+{
+    if holds_all(store, places, count, grain) {
+        return 0;
+    }
+    STRANGER
 }

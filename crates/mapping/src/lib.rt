@@ -1,7 +1,8 @@
 // The map entry behind the library's face: every check in the order of its number, then the trees, then the map.
-use arithmetic::WIDTH;
+use forests::Checked;
 use model::Job;
 use model::Map;
+use model::SPACE;
 ghost use mathlib.Core.Path.{_≡_};
 ghost use Prim.Native.Nat.{_≤_};
 ghost use lib.ListN.{length};
@@ -23,12 +24,6 @@ pub fn cells_a_side(job: Job) -> usize
     drawing::columns_of(job)
 }
 
-// The refusal's number, and where it is 0, the nodes of the job's trees.
-pub struct Checked {
-    pub refusal: u8,
-    pub nodes: usize,
-}
-
 fn refused(refusal: u8) -> Checked
     ensures answer { λ r. ⌜ (r .refusal ≡ refusal) × (r .nodes ≡ 0) ⌝ }
 {
@@ -45,18 +40,15 @@ fn go_through(job: Job, numbers: usize, room: usize) -> Checked
         return refused(judged);
     }
     let places = job.places;
-    let nodes = forests::count_nodes(&places, job.count, job.grain);
-    if nodes == 0 {
-        return refused(5);
-    }
-    if numbers < WIDTH * nodes {
-        return refused(6);
+    let trees = forests::check_trees(&places, job.count, job.grain, numbers);
+    if trees.refusal != 0 {
+        return trees;
     }
     let side = drawing::columns_of(job);
     if room < side * side {
-        return refused(7);
+        return refused(SPACE);
     }
-    Checked { refusal: 0, nodes }
+    trees
 }
 
 // The job's trees into the store, and then its map from them.

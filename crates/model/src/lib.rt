@@ -1,4 +1,8 @@
 // The plain data that code and contracts share, by value. What each number means stands in specs/, in the order of docs/RULES.md.
+ghost use mathlib.Core.Path.{_≡_};
+ghost use mathlib.Core.List.{[], _∷_};
+ghost use Rattle.model.specs.Refusals.{number, form, edges, range, cell, long, store, space, stranger};
+ghost use Rattle.model.specs.Plates.{letter, clear, within, doubtful};
 
 // A job: the plate's lower left corner, N, M, the reach, the grain, and the outline as a count of edges and 64 places of eight numbers.
 pub struct Job {
@@ -37,4 +41,41 @@ pub struct Nearest {
     pub lo: i64,
     pub hi: i64,
     pub edge: usize,
+}
+
+// ---- the refusals' numbers, and a map's letters C, I and D
+
+pub const FORM: u8 = 1;
+
+pub const EDGES: u8 = 2;
+
+pub const RANGE: u8 = 3;
+
+pub const CELL: u8 = 4;
+
+pub const LONG: u8 = 5;
+
+pub const STORE: u8 = 6;
+
+pub const SPACE: u8 = 7;
+
+pub const STRANGER: u8 = 8;
+
+pub const CLEAR: u8 = 67;
+
+pub const INSIDE: u8 = 73;
+
+pub const DOUBTFUL: u8 = 68;
+
+// That the constants are the definitions' numbers: a contract cannot name a constant, so this one states it of all in a row.
+pub fn numbers() -> [u8; 8]
+    ensures each { λ r. ⌜ r ≡ number form ∷ number edges ∷ number range ∷ number cell ∷ number long ∷ number store ∷ number space ∷ number stranger ∷ [] ⌝ }
+{
+    [FORM, EDGES, RANGE, CELL, LONG, STORE, SPACE, STRANGER]
+}
+
+pub fn letters() -> [u8; 3]
+    ensures each { λ r. ⌜ r ≡ letter clear ∷ letter within ∷ letter doubtful ∷ [] ⌝ }
+{
+    [CLEAR, INSIDE, DOUBTFUL]
 }

@@ -1,41 +1,40 @@
 -- A map has at most 65,536 cells, so that as many bytes are always enough. Assumes nothing.
-use mathlib.Core.Path.{_≡_, refl, sym, subst}
-use mathlib.Core.Bool.{true}
+use mathlib.Core.Path.{_≡_, refl}
 use mathlib.Core.List.{[], _++_}
 use Prim.Native.Nat.{ℕ, _+_, _-_, _≤_}
 use native.Mathlib.Nat.{mul-le-mul}
 use native.Mathlib.Omega.{arith}
 use borrow.Author.Tests.{leb-false}
-use lib.Dec.{T, leb}
+use lib.Dec.{leb}
 use lib.Pow.{pow-mono}
 use lib.IntN.{ℤ, pos, negsuc, natAbs, _+ℤ_, _-ℤ_}
-use lib.Signed.{leZ}
 use lib.ListN.{length, replicate, length-replicate}
 use Rattle.integers.specs.RingSolver.{name₂, reify}
 use Rattle.integers.specs.Order.{_≼_, ≼-pos}
 use Rattle.integers.specs.Omega.{zarith}
-use Rattle.integers.specs.Tests.{le-true}
 use Rattle.model.specs.declared.Job.{Job}
 use Rattle.model.specs.Refusals.{space}
-use Rattle.model.specs.Jobs.{between, coordinate, isZero, placed, counted, ranged, celled, own, judge}
+use Rattle.model.specs.Jobs.{between, coordinate, isZero, placed, counted, ranged, celled, own, judge, plateLog, cellLog}
 use Rattle.model.specs.Plates.{columns, cellsOf}
 use Rattle.model.specs.Entries.{treesChecks, mapRefusal}
 use Rattle.model.specs.Promises.{MapRoom, MapFills}
 use Rattle.ranges.specs.Refusals.{each-passed, tells}
-use Rattle.ranges.specs.Legal.{legal}
+use Rattle.ranges.specs.Legal.{Legal, legal}
 
 -- ---- at most 256 cells a side
 up : (a b : ℤ) → a -ℤ b ≼ pos 8 → a ≼ b +ℤ pos 8
 up a b = name₂ a b λ σ p q. simp (p, q, reify, σ) (omega zarith)
 
-eight : (n m : ℤ) → between (pos 0) (pos 20) n ≡ true → between (pos 0) (pos 20) m ≡ true → leZ (n -ℤ m) (pos 8) ≡ true → natAbs n - natAbs m ≤ 8
-unfolding between
-eight (pos a) (pos b) h k e = let l : a ≤ b + 8 = ≼-pos (up (pos a) (pos b) (le-true e)) in omega arith
-eight (pos a) (negsuc b) h k e = absurd (subst T (sym k) tt)
-eight (negsuc a) m h k e = absurd (subst T (sym h) tt)
+eight : (n m : ℤ) → pos 0 ≼ n → pos 0 ≼ m → n -ℤ m ≼ pos 8 → natAbs n - natAbs m ≤ 8
+eight (pos a) (pos b) h k e = let l : a ≤ b + 8 = ≼-pos (up (pos a) (pos b) e) in omega arith
+eight (pos a) (negsuc b) h k e = absurd (k .le)
+eight (negsuc a) m h k e = absurd (h .le)
+
+pub few-levels : (j : Job) → Legal j → plateLog j - cellLog j ≤ 8
+few-levels j l = eight (j .n) (j .m) (l .in-range .n-in .from) (l .in-range .m-in .from) (l .few-cells)
 
 pub few-columns : (j : Job) → judge j ≡ 0 → columns j ≤ 256
-few-columns j e = let l = legal j e in pow-mono (eight (j .n) (j .m) (l .in-range .n-in) (l .in-range .m-in) (l .few-cells))
+few-columns j e = pow-mono (few-levels j (legal j e))
 
 pub few-cells : (j : Job) → judge j ≡ 0 → cellsOf j ≤ 65536
 few-cells j e = mul-le-mul (few-columns j e) (few-columns j e)

@@ -1,4 +1,5 @@
--- What a job that is not refused has: numbers in range, and so trees whose strips are sized. Assumes nothing.
+-- What a legal job has, as the code over its trees asks for it: its places' and its grain's sizes, and trees whose strips are sized.
+-- Assumes nothing.
 use mathlib.Core.Path.{_≡_, sym, subst}
 use mathlib.Core.Bool.{true}
 use mathlib.Core.List.{List, [], _∷_}
@@ -6,28 +7,22 @@ use Prim.Native.Nat.{ℕ, zero, suc, _+_, _*_, _≤_}
 use native.Mathlib.Omega.{arith}
 use lib.Dec.{T, eqb→eq}
 use lib.IntN.{ℤ, pos, negsuc, natAbs}
-use lib.Signed.{leZ, nonNeg}
+use lib.Signed.{nonNeg}
 use lib.ListN.{getD}
-use Rattle.integers.specs.Tests.{both, le-of}
+use Rattle.integers.specs.Tests.{both}
 use Rattle.model.specs.declared.Job.{Job}
-use Rattle.model.specs.Jobs.{between, coordinate, isZero, placed, counted, ranged, judge, cubicAt, edgeAt, edgesFrom, outline}
+use Rattle.model.specs.Jobs.{coordinate, isZero, placed, cubicAt, edgeAt, edgesFrom, outline}
 use Rattle.model.specs.Store.{forest}
-use Rattle.ranges.specs.Legal.{all-passed, is-counted, is-ranged}
+use Rattle.ranges.specs.Legal.{coordinate-true, coordinate-size, natural, Legal}
 use Rattle.ranges.specs.Sizes.{grainMost, ControlSized, EachSized}
 use Rattle.ranges.specs.Strips.{EdgeSized, EdgesSized, trees-sized}
 
--- ---- what passing a test says of a size
-pub coordinate-in : (z : ℤ) → coordinate z ≡ true → natAbs z ≤ 1000000
-unfolding coordinate between
-coordinate-in (pos n) e = le-of n 1000000 (both (leZ (negsuc 999999) (pos n)) (leZ (pos n) (pos 1000000)) e .1)
-coordinate-in (negsuc n) e = let h = le-of n 999999 (both (leZ (negsuc 999999) (negsuc n)) (leZ (negsuc n) (pos 1000000)) e .0) in omega arith
-
+-- ---- a job's 512 numbers
 zero-in : (z : ℤ) → isZero z ≡ true → natAbs z ≤ 1000000
 unfolding isZero
 zero-in (pos n) e = let z : n ≡ 0 = eqb→eq n 0 (subst T (sym e) tt) in omega arith
 zero-in (negsuc n) e = absurd (subst T (sym e) tt)
 
--- ---- a job's 512 numbers
 pub record Limits (l : List ℤ) : Type 0 where
   pub within : (i : ℕ) → natAbs (getD l i (pos 0)) ≤ 1000000
 
@@ -36,7 +31,7 @@ unfolding placed
 placed-in k [] e i = omega arith
 placed-in zero (v ∷ vs) e zero = zero-in v (both (isZero v) (placed zero vs) e .0)
 placed-in zero (v ∷ vs) e (suc i) = placed-in zero vs (both (isZero v) (placed zero vs) e .1) i
-placed-in (suc k) (v ∷ vs) e zero = coordinate-in v (both (coordinate v) (placed k vs) e .0)
+placed-in (suc k) (v ∷ vs) e zero = coordinate-size v (coordinate-true (both (coordinate v) (placed k vs) e .0))
 placed-in (suc k) (v ∷ vs) e (suc i) = placed-in k vs (both (coordinate v) (placed k vs) e .1) i
 
 control-sized : (l : List ℤ) → Limits l → (k : ℕ) → ControlSized (cubicAt l k)
@@ -56,34 +51,13 @@ pub record GrainSized (t : ℤ) : Type 0 where
   pub grain-size : natAbs t ≤ grainMost
   pub grain-above : T (nonNeg t)
 
-grain-in : (t : ℤ) → between (pos 1) (pos 100000) t ≡ true → GrainSized t
-unfolding between
-grain-in (pos n) e =
-    let h = both (leZ (pos 1) (pos n)) (leZ (pos n) (pos 100000)) e in
-    record { least-grain = le-of 1 n (h .0); grain-size = le-of n 100000 (h .1); grain-above = tt }
-grain-in (negsuc n) e = absurd (subst T (sym e) tt)
+-- ---- what a legal job has, for those who walk its trees
+pub grain-sized : {j : Job} → Legal j → GrainSized (j .grain)
+grain-sized {j} l = let n = natural (j .grain) (l .in-range .grain-in) in record { least-grain = n .least; grain-size = n .most; grain-above = n .nonneg }
 
--- ---- a job
-pub record JobSized (j : Job) : Type 0 where
-  pub some-edge : 1 ≤ j .count
-  pub few-edges : j .count ≤ 64
-  pub places-in : Limits (j .places)
-  pub grain-in-range : GrainSized (j .grain)
+pub places-limited : {j : Job} → Legal j → Limits (j .places)
+places-limited {j} l = record { within = placed-in (8 * j .count) (j .places) (l .in-range .places-in) }
 
-pub ranged-sized : (j : Job) → counted j ≡ true → ranged j ≡ true → JobSized j
-ranged-sized j c r =
-    let n = is-counted j c in
-    let h = is-ranged j r in
-    record {
-      some-edge = n .0;
-      few-edges = n .1;
-      places-in = record { within = placed-in (8 * j .count) (j .places) (h .places-in) };
-      grain-in-range = grain-in (j .grain) (h .grain-in);
-    }
-
-pub judge-sized : (j : Job) → judge j ≡ 0 → JobSized j
-judge-sized j e = let a = all-passed j e in ranged-sized j (a .0) (a .1)
-
-pub forest-sized : (j : Job) → JobSized j → EachSized (forest j)
+pub forest-sized : (j : Job) → Legal j → EachSized (forest j)
 unfolding forest outline
-forest-sized j h = trees-sized (j .grain) (edgesFrom (j .places) (j .count) 0) (edges-sized (j .places) (h .places-in) (j .count) 0)
+forest-sized j l = trees-sized (j .grain) (edgesFrom (j .places) (j .count) 0) (edges-sized (j .places) (places-limited l) (j .count) 0)

@@ -1,5 +1,6 @@
 // Reads a job sheet, line by line. Each reader takes the sheet and a position, and says what stands there and where the next line starts.
 use judging::judge;
+use model::FORM;
 use model::Job;
 use model::Read;
 use scanning::form_at;
@@ -248,17 +249,17 @@ pub fn read(sheet: &[u8]) -> Read
     ensures answer { λ r. ⌜ r ≡ entries.read (now (sheet .entry)) ⌝ }
 {
     if sheet.len() > 8192 {
-        return refused(1);
+        return refused(FORM);
     }
     let head = head_at(sheet);
     if !head.found {
-        return refused(1);
+        return refused(FORM);
     }
     let at = head.next;
     let edges = edges_at(sheet, at);
     let next = edges.next;
     if !end_at(sheet, next) {
-        return refused(1);
+        return refused(FORM);
     }
     let count = edges.count;
     let places = edges.values;

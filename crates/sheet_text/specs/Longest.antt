@@ -19,7 +19,7 @@ use Rattle.model.specs.Sheets.{jobForm, plateForm, cellForm, reachForm, grainFo
 use Rattle.model.specs.Entries.{writeRefusal}
 use Rattle.model.specs.Promises.{SheetRoom, SheetFills}
 use Rattle.ranges.specs.Refusals.{tells}
-use Rattle.ranges.specs.Legal.{legal}
+use Rattle.ranges.specs.Legal.{Between, natural, legal}
 use Rattle.sheet_text.specs.Tests.{no-way}
 use Rattle.sheet_text.specs.Numbers.{text-short, text-long}
 use Rattle.sheet_text.specs.Optional.{stated-within}
@@ -30,10 +30,9 @@ abbrev pub room : ℕ
 room = 5645
 
 -- ---- a number's text by its range
-range-short : (g lo hi : ℕ) (z : ℤ) → g ≤ 6 → hi < 10 ^ suc g → between (pos lo) (pos hi) z ≡ true → length (text z) ≤ suc g
-unfolding between
-range-short g lo hi (pos n) h l e = let p = leb-true n hi (both (leb lo n) (leb n hi) e .1) in text-short g n h (omega arith)
-range-short g lo hi (negsuc n) h l e = no-way e
+range-short : (g lo hi : ℕ) (z : ℤ) → g ≤ 6 → hi < 10 ^ suc g → Between (pos lo) (pos hi) z → length (text z) ≤ suc g
+range-short g lo hi (pos n) h l e = text-short g n h (omega (arith, natural (pos n) e .most))
+range-short g lo hi (negsuc n) h l e = absurd (e .from .le)
 
 -- ---- a line by its numbers' texts
 plate-long : (a b c d e : ℤ) → length (writeForm plateForm (a ∷ b ∷ c ∷ d ∷ e ∷ [])) ≤ 27 + length (text c)

@@ -22,6 +22,7 @@ use Rattle.model.specs.Jobs.{own, judge, zeroJob}
 use Rattle.model.specs.Sheets.{jobForm, plateForm, cellForm, reachForm, grainForm, edgeForm, endForm, longest, tailLayout, layout, jobAt, plateAt, cellAt, reachAt, grainAt, edgesAt, endAt, defaultGrain, stated, edgeLines, linesOf, sheetOf, joined, fit, numberAt, jobOf, Sheet, lines, broken, readSheet}
 use Rattle.model.specs.Entries.{readAnswer, read, writeRefusal, write, writeLeaves}
 use Rattle.ranges.specs.Refusals.{each-passed, accepted-is}
+use Rattle.ranges.specs.Legal.{Legal, legal}
 use Rattle.model.specs.Promises.{JobKept, SheetKept, WriteRead, defaultLine, Lacks, Kept, readAs}
 use Rattle.sheet_text.specs.Numbers.{Small, number-text}
 use Rattle.sheet_text.specs.Forms.{marks, AllSmall, nil-small, cons-small}
@@ -29,7 +30,7 @@ use Rattle.sheet_text.specs.Layouts.{AllLines, FitsSection, FitsAll, fit
 use Rattle.sheet_text.specs.Letters.{tally, tally-append, after, after-first, form-tally, lacked, lacked-by, lacked-but, others-lack}
 use Rattle.sheet_text.specs.Sheets.{sheet-text, text-sheet}
 use Rattle.sheet_text.specs.Optional.{Stated, stated-cases, stated-out, stated-back, stated-fits, none-or-one}
-use Rattle.sheet_text.specs.Jobs.{Legal, legal, placed-small, placed-kept}
+use Rattle.sheet_text.specs.Jobs.{head-small, edges-small, placed-kept}
 use Rattle.sheet_text.specs.Places.{edges-count, edges-fit, edges-joined, edges-back, joined-long, fit-is, spread, line-back}
 use Rattle.sheet_text.specs.Code.{one-line, sheet-long}
 
@@ -64,16 +65,16 @@ one-small v s = cons-small v [] s nil-small
 
 legal-fits : (j : Job) → Legal j → 8 * j .count ≤ length (j .places) → FitsAll layout (linesOf j)
 unfolding layout tailLayout
-legal-fits j l h = (
+legal-fits j l h = let s = head-small j l in (
   one-fits jobForm [] job-marks nil-small,
   (
-    one-fits plateForm (j .x ∷ j .y ∷ j .n ∷ []) plate-marks (cons-small (j .x) _ (l .x-small) (cons-small (j .y) _ (l .y-small) (one-small (j .n) (l .n-small)))),
+    one-fits plateForm (j .x ∷ j .y ∷ j .n ∷ []) plate-marks (cons-small (j .x) _ (s .x-small) (cons-small (j .y) _ (s .y-small) (one-small (j .n) (s .n-small)))),
     (
-      one-fits cellForm (j .m ∷ []) cell-marks (one-small (j .m) (l .m-small)),
+      one-fits cellForm (j .m ∷ []) cell-marks (one-small (j .m) (s .m-small)),
       (
-        one-fits reachForm (j .reach ∷ []) reach-marks (one-small (j .reach) (l .reach-small)),
+        one-fits reachForm (j .reach ∷ []) reach-marks (one-small (j .reach) (s .reach-small)),
         (
-          stated-fits grainForm grain-marks defaultGrain (j .grain) (l .grain-small),
+          stated-fits grainForm grain-marks defaultGrain (j .grain) (s .grain-small),
           (edges-section j l h, (one-fits endForm [] end-marks nil-small, tt)),
         ),
       ),
@@ -85,7 +86,7 @@ legal-fits j l h = (
     edges-section j l h = (
       omega arith,
       omega (arith, edges-count (j .count) (j .places), l .few),
-      edges-fit (j .count) (j .places) (placed-small (8 * j .count) (j .places) (l .edges)) h,
+      edges-fit (j .count) (j .places) (edges-small j l) h,
     )
 
 job-back : (j : Job) → length (j .places) ≡ 512 → Legal j → jobOf (linesOf j) ≡ j
@@ -103,7 +104,7 @@ job-back j n l =
     }
   where
     all : fit 512 (joined (edgeLines (j .count) (j .places))) ≡ j .places
-    all = ap (fit 512) (edges-joined (j .count) (j .places)) ∙ ap (λ u. fit u (take (8 * j .count) (j .places))) (sym n) ∙ placed-kept (8 * j .count) (j .places) (l .edges)
+    all = ap (fit 512) (edges-joined (j .count) (j .places)) ∙ ap (λ u. fit u (take (8 * j .count) (j .places))) (sym n) ∙ placed-kept (8 * j .count) (j .places) (l .in-range .places-in)
 
 abbrev answer-of : Job → Read
 answer-of j = record { refusal = judge j; job = accepted (judge j) j zeroJob }

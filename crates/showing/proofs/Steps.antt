@@ -16,7 +16,8 @@ use Rattle.model.specs.Entries as entries
 use Rattle.model.specs.Entries.{over, mapRefusal, mapCells}
 use Rattle.model.specs.Printing.{refusedForm, mapForm, rowText, rowsText, mapText, answered, mapAnswered, printed}
 use Rattle.ranges.specs.Refusals.{accepted-is}
-use Rattle.clearance.specs.Demands.{map-long, map-judged}
+use Rattle.mapping.specs.Checks.{map-judged}
+use Rattle.clearance.specs.Demands.{map-long}
 
 -- ---- rows are looked for at the front only
 take-front : (n : ℕ) (xs ys : List ℕ) → n ≤ length xs → take n (xs ++ ys) ≡ take n xs

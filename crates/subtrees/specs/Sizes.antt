@@ -19,7 +19,7 @@ use Rattle.model.specs.Plates.{cellsOf}
 use Rattle.model.specs.Entries.{mapRefusal, spotCheck, pointRefusal}
 use Rattle.model.specs.Promises.{StoreRoom}
 use Rattle.ranges.specs.Refusals.{all-pass, passed-all, each-passed, tells}
-use Rattle.ranges.specs.Jobs.{JobSized, judge-sized}
+use Rattle.ranges.specs.Legal.{Legal, legal}
 use Rattle.subtrees.specs.Preorder.{size-pos}
 use Rattle.subtrees.specs.Subtrees.{few}
 
@@ -42,7 +42,7 @@ unfolding edgesFrom
 some-node g l zero e h = absurd (omega arith)
 some-node g l (suc k) e h = omega (arith, size-pos (tree g (edgeAt l e)))
 
--- ---- of a job in range
+-- ---- of a legal job
 pub forest-is : (j : Job) → forest j ≡ trees (j .grain) (edgesFrom (j .places) (j .count) 0)
 unfolding forest outline
 forest-is j = refl
@@ -51,17 +51,17 @@ pub forest-many : (j : Job) → length (forest j) ≡ j .count
 unfolding forest outline
 forest-many j = many-trees (j .grain) (j .places) (j .count) 0
 
-pub forest-some : (j : Job) → JobSized j → 1 ≤ nodesOf j
+pub forest-some : (j : Job) → Legal j → 1 ≤ nodesOf j
 unfolding forest outline
-forest-some j h = some-node (j .grain) (j .places) (j .count) 0 (h .some-edge)
+forest-some j h = some-node (j .grain) (j .places) (j .count) 0 (h .some)
 
-pub forest-few : (j : Job) → JobSized j → nodesOf j ≤ 131008
+pub forest-few : (j : Job) → Legal j → nodesOf j ≤ 131008
 unfolding forest outline
-forest-few j h = omega (arith, few-trees (j .grain) (j .places) (j .count) 0, h .few-edges)
+forest-few j h = omega (arith, few-trees (j .grain) (j .places) (j .count) 0, h .few)
 
 -- ---- a store for every job
 enough : (j : Job) (store : List ℤ) → judge j ≡ 0 → 917056 ≤ length store → leb (width * nodesOf j) (length store) ≡ false → ⊥
-enough j store e h f = absurd (omega (arith, leb-false (width * nodesOf j) (length store) f, forest-few j (judge-sized j e)))
+enough j store e h f = absurd (omega (arith, leb-false (width * nodesOf j) (length store) f, forest-few j (legal j e)))
 
 -- the check before that of the store
 abbrev long-check : Job → Checks

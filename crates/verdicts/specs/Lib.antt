@@ -9,7 +9,6 @@ pub mod Tests
 pub mod Trees
 pub mod Cells
 -- a job: what its acceptance says, the plate's quartering, demand 3, the bounds of a point
-pub mod Legal
 pub mod Quartering
 pub mod DemandThree
 pub mod PointBounds

@@ -26,7 +26,7 @@ use Rattle.enclosure.specs.Covers.{In, Covers, at-leaf, at-long, at-node, Cover
 use Rattle.integers.specs.Tests.{lt-true, lt-false}
 use Rattle.verdicts.specs.Apart.{InCell}
 use Rattle.verdicts.specs.Tests.{at-most-farthest, at-least-closest}
-use Rattle.verdicts.specs.Legal.{legal}
+use Rattle.ranges.specs.Legal.{legal}
 use Rattle.verdicts.specs.DemandThree.{forest-covers}
 
 -- ---- some strip of a list

@@ -20,7 +20,8 @@ use Rattle.model.specs.Entries.{writeRefusal, write, writeLeaves}
 use Rattle.sheet_text.specs.Numbers.{Small}
 use Rattle.sheet_text.specs.Forms.{AllSmall, nil-small, cons-small}
 use Rattle.ranges.specs.Refusals.{when-refused, when-passed, first-fails}
-use Rattle.sheet_text.specs.Jobs.{legal, placed-small}
+use Rattle.ranges.specs.Legal.{legal}
+use Rattle.sheet_text.specs.Jobs.{head-small, edges-small}
 use Rattle.sheet_text.specs.Code.{headOf, headText, edgesText, codeText, sheet-as-code}
 use Rattle.sheet_text.specs.Longest.{room, head-most, grain-most}
 use Rattle.printing.specs.Puts.{Put}
@@ -30,23 +31,23 @@ use Rattle.printing.proofs.Numbers.{put-then, small-fits, small-again}
 module _ (j : Job) (ok : judge j ≡ 0) where
   pub head-ready : (hs : List ℤ) → hs ≡ headOf j → AllSmall hs
   head-ready hs e =
-      let l = legal j ok in
+      let l = head-small j (legal j ok) in
       subst AllSmall (sym e) (cons-small (j .x) _ (l .x-small) (cons-small (j .y) _ (l .y-small) (cons-small (j .n) _ (l .n-small) (cons-small (j .m) _ (l .m-small) (cons-small (j .reach) [] (l .reach-small) nil-small)))))
 
   pub head-five : (hs : List ℤ) → hs ≡ headOf j → 5 ≤ length hs
   head-five hs e = rw e (omega arith)
 
   pub grain-ready : Small (toZ w32 (ofZ w32 (j .grain)))
-  grain-ready = small-again (j .grain) (legal j ok .grain-small)
+  grain-ready = small-again (j .grain) (head-small j (legal j ok) .grain-small)
 
   pub places-ready : AllSmall (j .places)
-  places-ready = placed-small (8 * j .count) (j .places) (legal j ok .edges)
+  places-ready = edges-small j (legal j ok)
 
   pub places-there : length (j .places) ≡ 512 → 8 * j .count ≤ length (j .places)
   places-there n = omega (arith, legal j ok .few)
 
   grain-back : toZ w32 (ofZ w32 (j .grain)) ≡ j .grain
-  grain-back = toZ-ofZ w32 (j .grain) (small-fits (j .grain) (legal j ok .grain-small))
+  grain-back = toZ-ofZ w32 (j .grain) (small-fits (j .grain) (head-small j (legal j ok) .grain-small))
 
   -- where the head and the optional line end at the latest, and the room that is left after them and after the edges
   abbrev optional-text : List ℕ

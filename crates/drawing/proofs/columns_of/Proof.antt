@@ -17,14 +17,14 @@ exponent-requires c κs =
     let j = c .before .args .job in
     let s = job-numbers j (c .before .pre) in
     let g : mag (j .n) < 2 ^ 31 = search needs in
-    rw (read32 (j .n) g) (s .plate-above, s .plate-size)
+    rw (read32 (j .n) g) (s .plate .nonneg, s .plate .most)
 
 exponent-requires-2 : tie.Need-exponent-requires-2
 exponent-requires-2 c κs =
     let j = c .before .before .before .args .job in
     let s = job-numbers j (c .before .before .before .pre) in
     let g : mag (j .m) < 2 ^ 31 = search needs in
-    rw (read32 (j .m) g) (s .cell-above, omega (arith, s .cell-size, s .plate-size))
+    rw (read32 (j .m) g) (s .cell .nonneg, s .cell .most)
 
 -- both exponents
 module _ (c : tie.After-exponent2) where

@@ -18,7 +18,7 @@ exponent-requires c κs =
     let j = c .before .args .job in
     let s = job-numbers j (c .before .pre) in
     let g : mag (j .m) < 2 ^ 31 = search needs in
-    rw (read32 (j .m) g) (s .cell-above, omega (arith, s .cell-size, s .plate-size))
+    rw (read32 (j .m) g) (s .cell .nonneg, s .cell .most)
 
 m-is : (c : tie.After-exponent) → c .exponent .result ≡ cellLog (c .before .before .args .job)
 m-is c =
@@ -29,7 +29,7 @@ m-is c =
 power-of-two-requires : tie.Need-power-of-two-requires
 power-of-two-requires c κs =
     let s = job-numbers (c .before .before .args .job) (c .before .before .pre) in
-    omega (arith, m-is c, s .cell-size, s .plate-size)
+    omega (arith, m-is c, s .cell .most)
 
 power-is : (c : tie.After-power-of-two) → c .power-of-two .result ≡ 2 ^ cellLog (c .before .before .before .args .job)
 power-is c = c .power-of-two .ensures ∙ ap (λ k. 2 ^ k) (m-is (c .before))

@@ -1,18 +1,20 @@
 -- Each return is one of the answers of `Answers`. Assumes nothing.
 use mathlib.Core.Path.{_≡_, refl, sym, _∙_}
-use mathlib.Core.Bool.{true, cond}
-use native.Mathlib.Omega.{arith}
+use mathlib.Core.Bool.{true}
+use mathlib.Core.List.{List}
 use borrow.Author.Needs.{needs}
-use borrow.Author.Tests.{not-true, not-false}
+use lib.ListN.{length}
 use mir.Syntax.{w32}
 use mir.Val.{toZ, ofZ}
 use mir.Facts.{toZ-ofZ}
 use Rattle.integers.specs.Signed.{fits32, read64}
+use Rattle.model.specs.Refusals.{check, first, stranger}
 use Rattle.model.specs.Jobs.{outline}
-use Rattle.model.specs.Trees.{anyLong}
-use Rattle.model.specs.Store.{forest, nodesOf, storeOf, begins}
+use Rattle.model.specs.Store.{forest, storeOf, begins}
+use Rattle.ranges.specs.Jobs.{grain-sized}
+use Rattle.forests.specs.Told.{checksOf, Told, told-of, trees-ready, whole-ready}
 use Rattle.pointing.specs.Checks.{asking}
-use Rattle.pointing.proofs.Answers.{refuse, accept, asked, Passed, passed, long-5, none-long, nodes-are, few-nodes, store-6, stranger-8, accepted-0, trees-many, trees-there}
+use Rattle.pointing.proofs.Answers.{refuse, accept, asked, Passed, passed, trees-refused, store-answer, begun, trees-many, trees-there}
 use Rattle.pointing.proofs.point.Statement.{statement}
 use Rattle.pointing.proofs.point.Tie as tie
 
@@ -24,16 +26,21 @@ good : (c : tie.Else1) → let s = c .before .before in Passed (s .args .job) (s
 good c = let s = c .before .before in passed (s .args .job) (s .args .x) (s .args .y) (s .args .store .now) (sym (asking-is (c .before)) ∙ c .if1 .left)
 
 grain-is : (c : tie.Else1) → let s = c .before .before in toZ w32 (ofZ w32 (s .args .job .grain)) ≡ s .args .job .grain
-grain-is c = toZ-ofZ (fits32 (good c .job .grain-in-range .grain-size) tt)
+grain-is c = toZ-ofZ (fits32 (grain-sized (good c .job) .grain-size) tt)
 
 -- ---- the checks of the trees
-nodes-is : (c : tie.After-count-nodes) → let s = c .before .before .before .before .before .before in c .count-nodes .result ≡ cond (anyLong (forest (s .args .job))) 0 (nodesOf (s .args .job))
-unfolding forest outline
-nodes-is c = rw (grain-is (c .before .before .before .before)) at (c .count-nodes .ensures)
+told : (c : tie.After-check-trees) → let s = c .before .before .before .before .before .before in Told (forest (s .args .job)) (length (s .args .store .now)) (c .check-trees .result)
+told c =
+    let g = c .before .before .before .before in
+    let s = g .before .before in
+    told-of (s .args .job) _ (grain-is g) (length (s .args .store .now)) (c .check-trees .result) (c .check-trees .ensures)
 
-begins-is : (c : tie.After-holds-all) → let s = c .before .before .before .before .before .before .before .before .before .before in c .holds-all .result ≡ begins (s .args .store .now) (storeOf (s .args .job))
+trees-pass : (c : tie.Else2) → let s = c .before .before .before .before .before .before .before .before in first (checksOf (forest (s .args .job)) (length (s .args .store .now))) ≡ 0
+trees-pass c = sym (told (c .before .before) .refusal-is) ∙ c .if2 .left
+
+store-is : (c : tie.After-check-store) → let s = c .before .before .before .before .before .before .before .before .before .before in c .check-store .result ≡ first (check stranger (begins (s .args .store .now) (storeOf (s .args .job))))
 unfolding forest outline
-begins-is c = rw (grain-is (c .before .before .before .before .before .before .before .before)) at (c .holds-all .ensures)
+store-is c = rw (grain-is (c .before .before .before .before .before .before .before .before)) at (c .check-store .ensures)
 
 ask-requires : tie.Need-ask-requires
 ask-requires c κs = search needs
@@ -47,89 +54,68 @@ returns c =
     let s = a .before in
     rw (c .refused .ensures) (refuse (s .args .job) (s .args .x) (s .args .y) (s .args .store .now) (a .ask .result) (c .before .if1 .taken) (asked (s .args .job) (s .args .x) (s .args .y) (s .args .store .now) (a .ask .result) (asking-is a) (c .before .if1 .taken)))
 
-count-nodes-requires : tie.Need-count-nodes-requires
-count-nodes-requires c κs =
+check-trees-requires : tie.Need-check-trees-requires
+check-trees-requires c κs =
     let g = c .before .before .before in
-    let p = good g .job in
-    rw (grain-is g) (p .places-in, p .few-edges, p .grain-in-range)
+    trees-ready (g .before .before .args .job) _ (grain-is g) (good g .job)
 
 refused-requires-2 : tie.Need-refused-requires-2
 refused-requires-2 c κs = search needs
 
 returns-2 : tie.Need-returns-2
 returns-2 c =
-    let n = c .before .before in
-    let g = n .before .before .before .before in
+    let t = c .before .before .before in
+    let g = t .before .before .before .before in
     let s = g .before .before in
-    rw (c .refused2 .ensures) (refuse (s .args .job) (s .args .x) (s .args .y) (s .args .store .now) 5 (λ z. omega arith) (long-5 (s .args .job) (s .args .x) (s .args .y) (s .args .store .now) (good g) (sym (nodes-is n) ∙ c .before .if2 .taken)))
+    let k = t .check-trees .result .refusal in
+    let h = c .before .if2 .taken in
+    rw (c .refused2 .ensures) (refuse (s .args .job) (s .args .x) (s .args .y) (s .args .store .now) k h (trees-refused (s .args .job) (s .args .x) (s .args .y) (s .args .store .now) (good g) k (told t .refusal-is) h))
 
-mul-if3 : tie.Need-mul-if3
-mul-if3 c =
-    let n = c .before in
-    let g = n .before .before .before .before in
+check-store-requires : tie.Need-check-store-requires
+check-store-requires c κs =
+    let e = c .before in
+    let g = e .before .before .before .before .before .before in
     let s = g .before .before in
-    omega (arith, few-nodes (s .args .job) (s .args .x) (s .args .y) (s .args .store .now) (good g) (n .count-nodes .result) (nodes-is n) (c .if2 .left))
+    whole-ready (s .args .job) _ (grain-is g) (good g .job) (length (s .args .store .now)) (trees-pass e)
 
 refused-requires-3 : tie.Need-refused-requires-3
 refused-requires-3 c κs = search needs
 
 returns-3 : tie.Need-returns-3
 returns-3 c =
-    let k = c .before .before in
-    let n = k .before in
-    let g = n .before .before .before .before in
-    let s = g .before .before in
-    rw (c .refused3 .ensures) (refuse (s .args .job) (s .args .x) (s .args .y) (s .args .store .now) 6 (λ z. omega arith) (store-6 (s .args .job) (s .args .x) (s .args .y) (s .args .store .now) (good g) (n .count-nodes .result) (nodes-is n) (k .if2 .left) (c .before .if3 .taken)))
-
-holds-all-requires : tie.Need-holds-all-requires
-unfolding forest outline
-holds-all-requires c κs =
-    let r = c .before in
-    let k = r .before in
-    let n = k .before in
-    let g = n .before .before .before .before in
-    let s = g .before .before in
-    let p = good g .job in
-    let i = nodes-are (s .args .job) (s .args .x) (s .args .y) (s .args .store .now) (good g) (n .count-nodes .result) (nodes-is n) (k .if2 .left) in
-    rw (grain-is g) (record { limits = p .places-in; few = p .few-edges; grain-in = p .grain-in-range; short = none-long (s .args .job) (s .args .x) (s .args .y) (s .args .store .now) (good g) (n .count-nodes .result) (nodes-is n) (k .if2 .left); fits = omega (arith, i, r .if3 .left) })
-
-refused-requires-4 : tie.Need-refused-requires-4
-refused-requires-4 c κs = search needs
-
-returns-4 : tie.Need-returns-4
-returns-4 c =
     let h = c .before .before in
-    let r = h .before .before in
-    let k = r .before in
-    let n = k .before in
-    let g = n .before .before .before .before in
+    let e = h .before .before in
+    let g = e .before .before .before .before .before .before in
     let s = g .before .before in
-    rw (c .refused4 .ensures) (refuse (s .args .job) (s .args .x) (s .args .y) (s .args .store .now) 8 (λ z. omega arith) (stranger-8 (s .args .job) (s .args .x) (s .args .y) (s .args .store .now) (good g) (n .count-nodes .result) (nodes-is n) (k .if2 .left) (r .if3 .left) (h .holds-all .result) (begins-is h) (not-true (h .holds-all .result) (c .before .if4 .taken))))
+    rw (c .refused3 .ensures) (refuse (s .args .job) (s .args .x) (s .args .y) (s .args .store .now) (h .check-store .result) (c .before .if3 .taken) (store-answer (s .args .job) (s .args .x) (s .args .y) (s .args .store .now) (good g) (trees-pass e) (h .check-store .result) (store-is h)))
 
-holds : (c : tie.Else4) → let s = c .before .before .before .before .before .before .before .before .before .before .before in begins (s .args .store .now) (storeOf (s .args .job)) ≡ true
-holds c = let h = c .before in sym (begins-is h) ∙ not-false (h .holds-all .result) (c .if4 .left)
+holds : (c : tie.Else3) → let s = c .before .before .before .before .before .before .before .before .before .before .before in begins (s .args .store .now) (storeOf (s .args .job)) ≡ true
+holds c =
+    let h = c .before in
+    let e = h .before .before in
+    let g = e .before .before .before .before .before .before in
+    let s = g .before .before in
+    begun (s .args .job) (s .args .x) (s .args .y) (s .args .store .now) (good g) (trees-pass e) (h .check-store .result) (store-is h) (c .if3 .left)
 
 nearest-requires : tie.Need-nearest-requires
 nearest-requires c κs =
     let g = c .before .before .before .before .before .before .before .before .before in
     let s = g .before .before in
     let p = good g in
-    rw (toZ-ofZ (s .fits .x), toZ-ofZ (s .fits .y)) (trees-there (s .args .job) (s .args .x) (s .args .y) (s .args .store .now) p (holds c), p .job .some-edge, p .job .few-edges, p .x-in, p .y-in)
+    rw (toZ-ofZ (s .fits .x), toZ-ofZ (s .fits .y)) (trees-there (s .args .job) (s .args .x) (s .args .y) (s .args .store .now) p (holds c), p .job .some, p .job .few, p .x-in, p .y-in)
 
-returns-5 : tie.Need-returns-5
-returns-5 c =
+returns-4 : tie.Need-returns-4
+returns-4 c =
     let d = c .before in
-    let e = d .before in
-    let h = e .before in
-    let r = h .before .before in
-    let k = r .before in
-    let n = k .before in
-    let g = n .before .before .before .before in
+    let o = d .before in
+    let h = o .before in
+    let e = h .before .before in
+    let g = e .before .before .before .before .before .before in
     let s = g .before .before in
     let p = good g in
     let f = d .nearest .result in
-    let a = rw (toZ-ofZ (s .fits .x), toZ-ofZ (s .fits .y)) at (d .nearest .ensures (forest (s .args .job)) (trees-many (s .args .job) (s .args .x) (s .args .y) (s .args .store .now) p) (holds e)) in
-    let z = accepted-0 (s .args .job) (s .args .x) (s .args .y) (s .args .store .now) p (n .count-nodes .result) (nodes-is n) (k .if2 .left) (r .if3 .left) (h .holds-all .result) (begins-is h) (not-false (h .holds-all .result) (e .if4 .left)) in
+    let a = rw (toZ-ofZ (s .fits .x), toZ-ofZ (s .fits .y)) at (d .nearest .ensures (forest (s .args .job)) (trees-many (s .args .job) (s .args .x) (s .args .y) (s .args .store .now) p) (holds o)) in
+    let z = store-answer (s .args .job) (s .args .x) (s .args .y) (s .args .store .now) p (trees-pass e) (h .check-store .result) (store-is h) ∙ o .if3 .left in
     accept (s .args .job) (s .args .x) (s .args .y) (s .args .store .now) _ z refl (read64 (f .lo) (c .struct-told2 .given .0 .1) ∙ a .0) (read64 (f .hi) (c .struct-told2 .given .1 .0 .1) ∙ a .1) (a .2)
 
 pub point-spec : {M : Type 1} → statement M
@@ -139,14 +125,11 @@ point-spec =
     ask-requires
     refused-requires
     returns
-    count-nodes-requires
+    check-trees-requires
     refused-requires-2
     returns-2
-    mul-if3
+    check-store-requires
     refused-requires-3
     returns-3
-    holds-all-requires
-    refused-requires-4
-    returns-4
     nearest-requires
-    returns-5)
+    returns-4)
