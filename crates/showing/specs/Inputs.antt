@@ -1,6 +1,7 @@
 -- The input and what is read of it. A sheet has at most 8,192 bytes, so the first 8,193 of an input decide what is printed. Assumes nothing.
 use mathlib.Core.Path.{_≡_, sym, ap, _∙_}
 use mathlib.Core.List.{List}
+use mathlib.Core.Logic.{_⊎_}
 use Prim.Native.Nat.{ℕ, _≤_}
 use native.Mathlib.Omega.{arith}
 use lib.ListN.{length, take}
@@ -14,6 +15,10 @@ use Rattle.sheet_text.specs.Sheets.{front-read}
 -- input, whatever stands in it past what was read.
 abbrev pub Answers : List ℕ → ℕ → List ℕ → Type 0
 Answers held k text = (input : List ℕ) → take k held ≡ take (length held) input → text ≡ printed input
+
+-- so many bytes were handed on: none, or those of some input's answer
+abbrev pub Handed : ℕ → Type 0
+Handed n = (n ≡ 0) ⊎ ((input : List ℕ) × (n ≡ length (printed input)))
 
 -- 8,193 bytes of an input tell its answer
 pub front-printed : (n : ℕ) (s : List ℕ) → 8193 ≤ n → printed (take n s) ≡ printed s

@@ -13,7 +13,7 @@ ghost use Rattle.model.specs.Forms.{writeForm};
 ghost use Rattle.model.specs.Printing.{refusedForm, mapAnswered, printed};
 ghost use Rattle.printing.specs.Puts.{Put};
 ghost use Rattle.io.specs.Counts.{Counts};
-ghost use Rattle.showing.specs.Inputs.{Answers};
+ghost use Rattle.showing.specs.Inputs.{Answers, Handed};
 
 // The answer to a job, with 16,380 numbers and 65,536 bytes lent to the library. A map of 256 cells a side takes 67,344 bytes at most.
 fn put_answer(job: Job, out: &mut [u8]) -> usize
@@ -123,17 +123,20 @@ fn write_out(text: &[u8]) {
     }
 }
 
-// Hands on the answer to an input that was read whole, and nothing else.
-fn hand_on(text: &[u8], held: &[u8], input: Input)
+// Hands on the answer to an input that was read whole, and nothing else, and says how many bytes it has.
+fn hand_on(text: &[u8], held: &[u8], input: Input) -> usize
     requires whole { ⌜ input .whole ≡ true ⌝ }
     requires answer { ⌜ Answers (now held) (input .count) (now text) ⌝ }
+    ensures bytes { λ r. ⌜ r ≡ length (now (text .entry)) ⌝ }
 {
     write_out(text);
+    text.len()
 }
 
-// Reads an input to the memory lent and hands on its answer. An input that could not be read to its end has none.
-fn show_input(fd: i32, held: &mut [u8])
+// Reads an input to the memory lent, hands on its answer and says how many bytes it has. An input that could not be read to its end has none.
+fn show_input(fd: i32, held: &mut [u8]) -> usize
     requires space { ⌜ 8193 ≤ length (now held) ⌝ }
+    ensures answered { λ r. ⌜ Handed r ⌝ }
 {
     let input = read_input(fd, held);
     let whole = input.whole;
@@ -142,29 +145,36 @@ fn show_input(fd: i32, held: &mut [u8])
             STDERR_FILENO,
             b"clearmap: the input could not be read to its end\n",
         );
-        return;
+        return 0;
     }
     let mut out = [0u8; 67344];
     let end = put_input(held, input, &mut out);
-    hand_on(&out[..end], held, input);
+    hand_on(&out[..end], held, input)
 }
 
-// The program: one byte more than a sheet may have is read, so that a longer one is told.
-pub fn answer(fd: i32) {
+// The program: one byte more than a sheet may have is read, so that a longer one is told. Says how many bytes the answer has, 0 where none is
+// given.
+pub fn answer(fd: i32) -> usize
+    ensures answered { λ r. ⌜ Handed r ⌝ }
+{
     let mut held = [0u8; 8193];
-    show_input(fd, &mut held);
+    show_input(fd, &mut held)
 }
 
 // Hands on the line of a refusal, and nothing else.
-fn hand_refusal(text: &[u8], refusal: u8)
+fn hand_refusal(text: &[u8], refusal: u8) -> usize
     requires line { ⌜ now text ≡ writeForm refusedForm (pos refusal ∷ []) ⌝ }
+    ensures bytes { λ r. ⌜ r ≡ length (now (text .entry)) ⌝ }
 {
     write_out(text);
+    text.len()
 }
 
-// Hands a refusal's line to standard output.
-pub fn show_refusal(refusal: u8) {
+// Hands a refusal's line to standard output, and says how many bytes it has.
+pub fn show_refusal(refusal: u8) -> usize
+    ensures bytes { λ r. ⌜ r ≡ length (writeForm refusedForm (pos refusal ∷ [])) ⌝ }
+{
     let mut out = [0u8; 19];
     let end = map_text::put_refusal(&mut out, 0, refusal as usize);
-    hand_refusal(&out[..end], refusal);
+    hand_refusal(&out[..end], refusal)
 }

@@ -1,7 +1,8 @@
-use mathlib.Core.Path.{sym, _∙_}
+use mathlib.Core.Path.{refl, sym, ap, _∙_}
+use mathlib.Core.Logic.{inl, inr}
 use Prim.Native.Nat.{_≤_}
 use native.Mathlib.Omega.{arith}
-use lib.ListN.{length}
+use lib.ListN.{length, take}
 use lib.Seq.{length-take-le}
 use borrow.Author.Needs.{needs}
 use borrow.Author.Tests.{not-false}
@@ -22,7 +23,7 @@ same-length : tie.Need-same-length
 same-length c = search needs
 
 returns : tie.Need-returns
-returns c = search needs
+returns c = inl refl
 
 slice-aggregate-put-input : tie.Need-slice-aggregate-put-input
 slice-aggregate-put-input c = search needs
@@ -48,7 +49,10 @@ same-length-2 : tie.Need-same-length-2
 same-length-2 c = search needs
 
 returns-2 : tie.Need-returns-2
-returns-2 c = search needs
+returns-2 c =
+    let b = c .before in
+    let i = b .before .before .before .before .before .before .before .before .before .read-input in
+    inr (take (i .result .count) (i .last .1 .0), c .hand-on .ensures ∙ ap length (b .before .before .before .put-input .ensures .0 .wrote))
 
 pub show-input-spec : {M : Type 1} → statement M
 show-input-spec =

@@ -1,4 +1,5 @@
-use mathlib.Core.Path.{sym}
+use mathlib.Core.Path.{sym, ap, _∙_}
+use lib.ListN.{length}
 use native.Mathlib.Omega.{arith}
 use lib.Seq.{length-take-le}
 use borrow.Author.Needs.{needs}
@@ -21,7 +22,7 @@ hand-refusal-requires : tie.Need-hand-refusal-requires
 hand-refusal-requires c κs = let r = c .before .before .put-refusal in r .ensures .0 .wrote
 
 returns : tie.Need-returns
-returns c = search needs
+returns c = c .hand-refusal .ensures ∙ ap length (c .before .before .before .put-refusal .ensures .0 .wrote)
 
 pub show-refusal-spec : {M : Type 1} → statement M
 show-refusal-spec =
