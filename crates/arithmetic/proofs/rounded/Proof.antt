@@ -12,7 +12,7 @@ use mir.Val.{toZ, ofZ}
 use Rattle.arithmetic.proofs.rounded.Statement.{statement}
 use Rattle.arithmetic.proofs.rounded.Tie as tie
 use Rattle.integers.specs.Rounding.{nearest}
-use Rattle.integers.specs.Signed.{Made, arg, arg-pos, lit, plus, minus, times, over, rest, above-zero, back, test-lt, test-eq, test-ne}
+use Rattle.integers.specs.Signed.{Made, arg, arg-pos, lit, plus, minus, times, over, rest, above-zero, back, test-eq, test-ne}
 use Rattle.integers.specs.Whole as whole
 
 abbrev bits : ℤ → ℤ
@@ -75,7 +75,7 @@ add-t11 c = (plus (r (c .before)) (d (c .before)) tt) .fits
 returns : tie.Need-returns
 returns c =
     let s = c .before in
-    let e = test-lt (r s) (lit 0 tt) (c .if1 .taken) in (
+    let e = rw (back (r s)) at (c .if1 .taken) in (
       back (minus (q s) (lit 1 tt) tt) ∙ sym (whole.below-is (s .args .x) (k s) (s .pre .2) e),
       told (s .args .x) (k s) (s .pre .2) (plus (r s) (d s) tt) (n s) (whole.below-whole (s .args .x) (k s) (s .pre .2) e),
     )
@@ -83,7 +83,7 @@ returns c =
 returns-2 : tie.Need-returns-2
 returns-2 c =
     let s = c .before in
-    let e = test-lt (r s) (lit 0 tt) (c .if1 .left) in (
+    let e = rw (back (r s)) at (c .if1 .left) in (
       back (q s) ∙ sym (whole.above-is (s .args .x) (k s) (s .pre .2) e),
       told (s .args .x) (k s) (s .pre .2) (r s) (n s) (whole.above-whole (s .args .x) (k s) (s .pre .2) e),
     )

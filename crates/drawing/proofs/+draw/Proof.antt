@@ -41,11 +41,15 @@ draw-no-starts-requires t c κs = tt
 draw-settle-requires : (t : ℕ) → draw-lts.Need-settle-requires (callees t) (draw-at t) draw.Post
 draw-settle-requires t c κs = (c .before .before .before .pre .1 .0, c .before .no-starts .ensures)
 
+-- a block of fewer rows ends no later
+fewer-rows : (r v w n l : ℕ) → v ≤ w → (r + w) * n ≤ l → (r + v) * n ≤ l
+fewer-rows r v w n l h k = le-trans (mul-le-mul-right n (omega arith)) k
+
 draw-fill-square-requires : (t : ℕ) → draw-lts.Need-fill-square-requires (callees t) (draw-at t) draw.Post
 draw-fill-square-requires t c κs =
     let s = c .before .before .before .before .before .before in
     let p = s .pre .1 .0 in
-    (omega (arith, p .columns-fit), omega (arith, p .rows-fit, p .frame-sized .n-size), s .pre .1 .1)
+    (omega (arith, p .columns-fit), omega (arith, p .rows-fit, p .frame-sized .n-size), fewer-rows _ _ _ _ _ (omega arith) (s .pre .1 .1))
 
 draw-same-length : (t : ℕ) → draw-lts.Need-same-length (callees t) (draw-at t) draw.Post
 draw-same-length t c = c .before .before .fill-square .kept .0

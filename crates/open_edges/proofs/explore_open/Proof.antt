@@ -1,4 +1,5 @@
 -- `open_edges::explore_open` meets its contract: k trees on, none is inside and those not away are kept. Assumes nothing.
+use mathlib.Core.Bool.{Bool, true, false}
 use mathlib.Core.List.{List}
 use lib.Seq.{length-take-le, getD-take}
 use Rattle.model.specs.Strips.{Strip}
@@ -108,11 +109,15 @@ loop-again-2 c =
       l .inv .3,
     )
 
+-- after the last edge no cell is inside
+never : {X : Type 0} → _≡_ {A = Bool} false true → X
+never e = clash (cc)
+
 returns-2 : tie.Need-returns-2 Inv-loop μ-loop
 returns-2 c =
     let s = c .before .before in let l = c .before .loop in
     let z : (ts : List Tree) → Starts (s .args .store .now) (places s) ts → (exploreAll (by s) ts ≡ inside → ⊥) × Starts (s .args .store .now) (take (l .kept) (l .keep)) (opened (by s) ts) = finish (s .args .store .now) (by s) (places s) (l .keep) (l .kept) (l .k) (omega (arith, places-long s, l .inv .0)) (l .inv .2) in
-    (l .inv .3, ((λ e. clash (cc)), λ e. record { fewer = omega (arith, l .inv .0, l .inv .1); not-inside = λ ts h. z ts h .0; still = λ ts h. z ts h .1 }))
+    (l .inv .3, (never, λ e. record { fewer = omega (arith, l .inv .0, l .inv .1); not-inside = λ ts h. z ts h .0; still = λ ts h. z ts h .1 }))
 
 pub explore-open-spec : {M : Type 1} → statement M
 explore-open-spec =

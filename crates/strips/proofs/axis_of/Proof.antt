@@ -1,4 +1,5 @@
 -- Nothing wraps, and the quotient is rounded by `rounded`. Assumes nothing.
+use Prim.Native.Nat.{ℕ}
 use mir.Facts.{toZ-ofZ}
 use Rattle.integers.specs.Signed.{Made, held, lit, widen, plus, times, back}
 use Rattle.integers.specs.Signed.{read64}
@@ -9,6 +10,10 @@ use Rattle.strips.specs.Structs.{form}
 use borrow.Author.Needs.{needs}
 use Rattle.strips.proofs.axis_of.Statement.{statement}
 use Rattle.strips.proofs.axis_of.Tie as tie
+
+-- what the axis has of the cubic's last coefficient
+abbrev share : ℕ
+share = 12
 
 module _ (c : tie.After-struct-told) where
   a1 : Made (c .before .a1-of .result) (model.a1 (form (c .before .before .args .c)) (c .before .before .args .n) (c .before .before .args .m)) a1Most
@@ -24,22 +29,22 @@ mul-rounded : tie.Need-mul-rounded
 mul-rounded c = (times (lit 16 tt) (a1 c) tt) .fits
 
 mul-rounded-2 : tie.Need-mul-rounded-2
-mul-rounded-2 c = (times (lit 12 tt) (a3 c) tt) .fits
+mul-rounded-2 c = (times (lit share tt) (a3 c) tt) .fits
 
 add-rounded : tie.Need-add-rounded
-add-rounded c = (plus (times (lit 16 tt) (a1 c) tt) (times (lit 12 tt) (a3 c) tt) tt) .fits
+add-rounded c = (plus (times (lit 16 tt) (a1 c) tt) (times (lit share tt) (a3 c) tt) tt) .fits
 
 rounded-requires : tie.Need-rounded-requires
 rounded-requires c κs =
     let s = c .before .before in
-    let t = (plus (times (lit 16 tt) (a1 c) tt) (times (lit 12 tt) (a3 c) tt) tt) in
+    let t = (plus (times (lit 16 tt) (a1 c) tt) (times (lit share tt) (a3 c) tt) tt) in
     rw (back t, toZ-ofZ (s .fits .cube)) ((widen 3900000000000000000 t tt) .within, s .pre .3, s .pre .4, s .pre .5)
 
 returns : tie.Need-returns
 returns c =
     let d = c .before in
     let s = d .before .before .before in
-    let t = (plus (times (lit 16 tt) (a1 (d .before)) tt) (times (lit 12 tt) (a3 (d .before)) tt) tt) in
+    let t = (plus (times (lit 16 tt) (a1 (d .before)) tt) (times (lit share tt) (a3 (d .before)) tt) tt) in
     rw (read64 (d .rounded .result .nearest) (c .struct-told2 .given .0 .1)) (rw (back t, toZ-ofZ (s .fits .cube)) at (d .rounded .ensures .0))
 
 pub axis-of-spec : {M : Type 1} → statement M

@@ -17,6 +17,10 @@ use borrow.Author.Needs.{needs}
 use Rattle.strips.proofs.box_of.Statement.{statement}
 use Rattle.strips.proofs.box_of.Tie as tie
 
+-- what the box has for the roundings
+abbrev pad : ℕ
+pad = 2
+
 a2 : (c : tie.After-struct-told) → Made (c .before .a2-of .result) (model.a2 (form (c .before .before .args .c)) (c .before .before .args .n) (c .before .before .args .m)) a2Most
 a2 c = let s = c .before .before in let e = rw (toZ-ofZ (s .fits .n), toZ-ofZ (s .fits .m)) at (c .before .a2-of .ensures) in got (e .0) (e .1) tt
 
@@ -78,10 +82,10 @@ add-result : tie.Need-add-result
 add-result c = (plus (first-size (c .before .before)) (other-size c) tt) .fits
 
 add-result-2 : tie.Need-add-result-2
-add-result-2 c = (plus (plus (first-size (c .before .before)) (other-size c) tt) (lit 2 tt) tt) .fits
+add-result-2 c = (plus (plus (first-size (c .before .before)) (other-size c) tt) (lit pad tt) tt) .fits
 
 returns : tie.Need-returns
-returns c = back (plus (plus (first-size (c .before .before)) (other-size c) tt) (lit 2 tt) tt)
+returns c = back (plus (plus (first-size (c .before .before)) (other-size c) tt) (lit pad tt) tt)
 
 pub box-of-spec : {M : Type 1} → statement M
 box-of-spec =

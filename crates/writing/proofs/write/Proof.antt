@@ -1,5 +1,5 @@
 -- `writing::write` meets its contract. Assumes nothing.
-use mathlib.Core.Path.{sym}
+use mathlib.Core.Path.{_≡_, sym}
 use Prim.Native.Nat.{_≤_}
 use native.Mathlib.Omega.{arith}
 use lib.ListN.{length}
@@ -13,7 +13,9 @@ judge-requires : tie.Need-judge-requires
 judge-requires c κs = search needs
 
 returns : tie.Need-returns
-returns c = (search (needs, sheets.refused), search (needs, sheets.refused-left))
+returns c =
+    let f : c .before .judge .result ≡ 0 → ⊥ = λ e. omega (arith, e, c .if1 .taken) in
+    (search (needs, sheets.refused, f), search (needs, sheets.refused-left, f))
 
 slice-aggregate-put-sheet : tie.Need-slice-aggregate-put-sheet
 slice-aggregate-put-sheet c = search needs
