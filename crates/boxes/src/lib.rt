@@ -1,4 +1,6 @@
 // How near and how far a point is from the upright box of a stored strip. RULES, "Distance".
+use nodes::X;
+use nodes::Y;
 ghost use mathlib.Core.Path.{_≡_};
 ghost use Prim.Native.Nat.{_≤_, _<_};
 ghost use lib.IntN.{natAbs};
@@ -6,7 +8,7 @@ ghost use lib.ListN.{length};
 ghost use Rattle.model.specs.Store.{width};
 ghost use Rattle.model.specs.Explore.{atLeast0, squares, closest², farthest²};
 ghost use Rattle.ranges.specs.Sizes.{SideSized, Sized};
-ghost use Rattle.subtrees.specs.Halves.{sideIn, stripIn};
+ghost use Rattle.nodes.specs.Places.{sideIn, stripIn};
 ghost use Rattle.boxes.specs.Ranges.{pointAt, RangeOf};
 
 // How near and how far the points of an upright box are in one coordinate.
@@ -32,11 +34,10 @@ fn range_of(part: &[i32], i: usize, c: i64) -> Range
     requires sizes { ⌜ (i < 2) × (width ≤ length (now part)) × SideSized (sideIn (now part) i) × (natAbs c ≤ 16000000) ⌝ }
     ensures range { λ r. ⌜ RangeOf c (sideIn (now (part .entry)) i) r ⌝ }
 {
-    let centre = arithmetic::wide_at(part, i);
-    let axis = arithmetic::wide_at(part, i + 2);
-    let half = arithmetic::wide_at(part, i + 4);
-    let w = arithmetic::abs(c - centre);
-    let a = arithmetic::abs(axis);
+    let strip = nodes::extent_at(part, i);
+    let half = strip.half;
+    let w = rounding::abs(c - strip.centre);
+    let a = rounding::abs(strip.axis);
     let near = at_least_0(w - a - half);
     Range {
         near: near,
@@ -57,8 +58,8 @@ pub fn leaf_bounds(part: &[i32], x: i64, y: i64) -> Bounds
     ensures low { λ r. ⌜ r .lo ≡ closest² (pointAt x y) (stripIn (now (part .entry))) ⌝ }
     ensures high { λ r. ⌜ r .hi ≡ farthest² (pointAt x y) (stripIn (now (part .entry))) ⌝ }
 {
-    let h = range_of(part, 0, x);
-    let v = range_of(part, 1, y);
+    let h = range_of(part, X, x);
+    let v = range_of(part, Y, y);
     let lo = sum_of_squares(h.near, v.near);
     let hi = sum_of_squares(h.far, v.far);
     Bounds { lo: lo, hi: hi }

@@ -1,35 +1,17 @@
--- A node's numbers as they are narrowed, and what the builder leaves after both halves. Assumes nothing.
+-- What the builder leaves after both halves. Assumes nothing.
 use mathlib.Core.Path.{_≡_, sym, ap, _∙_}
-use mathlib.Core.List.{List, _∷_, _++_, append-assoc}
-use Prim.Native.Nat.{ℕ, suc, _+_, _*_, _-_, _^_, _≤_, _<_}
-use native.Mathlib.Nat.{le-trans}
+use mathlib.Core.List.{List, _++_, append-assoc}
+use Prim.Native.Nat.{ℕ, suc, _+_, _*_, _-_, _≤_}
 use native.Mathlib.Omega.{arith}
-use lib.Dec.{T, leb, leb→le}
-use lib.IntN.{ℤ, natAbs}
-use lib.Signed.{mag}
+use lib.IntN.{ℤ}
 use lib.ListN.{length, take, drop, length-append}
 use lib.Seq.{take-at, drop-at, drop-drop, length-take-le}
-use mir.Syntax.{w32, w64}
-use mir.Val.{toZ, ofZ}
 use borrow.Rule.Slice.PartMut.{putMid, midOf}
-use Rattle.integers.specs.Signed.{held, back, read32}
 use Rattle.sequences.specs.Parts.{tail-mid, tail-put}
 use Rattle.model.specs.Strips.{Strip}
 use Rattle.model.specs.Trees.{Tree}
 use Rattle.model.specs.Store.{width, size, numbers, flatten}
 use Rattle.subtrees.specs.Preorder.{length-flatten}
-
--- a field within a bound may be narrowed
-pub fit : (v : ℤ) (B : ℕ) → natAbs v ≤ B → T (leb B 1000000000) → natAbs (toZ w64 (ofZ w64 v)) ≤ 1000000000
-fit v B h t = let k = le-trans h (leb→le B 1000000000 t) in rw (back (held v k tt)) k
-
--- what it is then stored as
-pub cell : (r v : ℤ) → mag r < 2 ^ 31 → r ≡ toZ w64 (ofZ w64 v) → natAbs v ≤ 1000000000 → toZ w32 (ofZ w32 r) ≡ v
-cell r v k e h = read32 r k ∙ e ∙ back (held v h tt)
-
-pub seven : {a b c d e f g p q r s t u v : ℤ} (l : List ℤ) → a ≡ p → b ≡ q → c ≡ r → d ≡ s → e ≡ t → f ≡ u → g ≡ v →
-    _≡_ {A = List ℤ} (a ∷ b ∷ c ∷ d ∷ e ∷ f ∷ g ∷ l) (p ∷ q ∷ r ∷ s ∷ t ∷ u ∷ v ∷ l)
-seven l h i j k m n o = rw (h, i, j, k, m, n, o)
 
 two′ : (p a b t : List ℤ) (i j : ℕ) → length p ≡ width → length (p ++ a) ≡ i →
     drop width (take i (p ++ (a ++ t)) ++ (b ++ drop j (drop i (p ++ (a ++ t))))) ≡ (a ++ b) ++ drop j t

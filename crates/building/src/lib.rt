@@ -1,31 +1,15 @@
 // Writes an edge's strip tree in preorder into a lent part of the store.
-use arithmetic::WIDTH;
-use strips::Extent;
+use nodes::WIDTH;
 use strips::Shape;
 ghost use mathlib.Core.Path.{_≡_};
 ghost use mathlib.Core.List.{_++_};
-ghost use Prim.Native.Nat.{_*_, _≤_, _<_};
+ghost use Prim.Native.Nat.{_*_, _≤_};
 ghost use lib.IntN.{natAbs};
 ghost use lib.ListN.{length, drop};
-ghost use Rattle.model.specs.Store.{width, size, numbers, flatten};
-ghost use Rattle.ranges.specs.Sizes.{grainMost, SideSized};
+ghost use Rattle.model.specs.Store.{width, size, flatten};
+ghost use Rattle.ranges.specs.Sizes.{grainMost};
 ghost use Rattle.subtrees.specs.Subtrees.{subtree, Walkable};
-ghost use Rattle.strips.specs.Structs.{side, stripOf, stripsOf, ShapeSized};
-
-// writes a node's numbers at the front of s
-fn put(s: &mut [i32], x: Extent, y: Extent, nodes: usize)
-    requires sizes { ⌜ (width ≤ length (now s)) × SideSized (side x) × SideSized (side y) × (nodes < 4096) ⌝ }
-    ensures written { λ _. ⌜ now (s .exit) ≡ numbers (stripOf x y) nodes (drop width (now (s .entry))) ⌝ }
-{
-    let a = arithmetic::narrow(x.centre);
-    let b = arithmetic::narrow(y.centre);
-    let c = arithmetic::narrow(x.axis);
-    let d = arithmetic::narrow(y.axis);
-    let e = arithmetic::narrow(x.half);
-    let f = arithmetic::narrow(y.half);
-    let g = arithmetic::narrow_count(nodes);
-    arithmetic::put_node(s, a, b, c, d, e, f, g);
-}
+ghost use Rattle.strips.specs.Structs.{stripsOf, ShapeSized};
 
 // Writes the piece's subtree at the front of s, and returns its nodes. A node's own numbers come last: only then are they counted.
 pub fn build(s: &mut [i32], shape: Shape, d: usize, k: usize, grain: i64) -> usize
@@ -39,13 +23,13 @@ pub fn build(s: &mut [i32], shape: Shape, d: usize, k: usize, grain: i64) -> usi
     let y = p.y;
     let short = p.short;
     if short {
-        put(s, x, y, 1);
+        nodes::put(s, x, y, 1);
         return 1;
     }
     let l = build(&mut s[WIDTH..], shape, d + 1, 2 * k, grain);
     let mid = WIDTH + WIDTH * l;
     let r = build(&mut s[mid..], shape, d + 1, 2 * k + 1, grain);
     let nodes = 1 + l + r;
-    put(s, x, y, nodes);
+    nodes::put(s, x, y, nodes);
     nodes
 }

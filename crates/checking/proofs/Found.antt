@@ -9,7 +9,8 @@ use lib.ListN.{length, getD, drop}
 use Rattle.model.specs.Strips.{Strip, short}
 use Rattle.model.specs.Trees.{Tree, leaf, node}
 use Rattle.model.specs.Store.{width, size}
-use Rattle.subtrees.specs.Preorder.{countPlace, HasStrip, Begins, begins-strip, begins-count, leaf-begins, node-left, node-right, node-begins}
+use Rattle.nodes.specs.Places.{countPlace, stripIn}
+use Rattle.subtrees.specs.Preorder.{Begins, begins-strip, begins-count, leaf-begins, node-left, node-right, node-begins}
 use Rattle.subtrees.specs.Subtrees.{subtree, at-short, top-is, Forked}
 use Rattle.checking.specs.Answers.{Told}
 
@@ -23,14 +24,14 @@ module _ (T : ℤ) (strips : ℕ → ℕ → Strip) (d k : ℕ) (s : Strip) (h-s
   abbrev half-r : Tree
   half-r = subtree T strips (d + 1) (2 * k + 1)
 
-  pub no-strip : (HasStrip l s → ⊥) → Told 0 (size whole) (Begins whole l)
-  no-strip h = inl (refl, λ b. h (subst (HasStrip l) (top-is T strips d k ∙ sym h-strip) (begins-strip whole l b)))
+  pub no-strip : (stripIn l ≡ s → ⊥) → Told 0 (size whole) (Begins whole l)
+  no-strip h = inl (refl, λ b. h (subst (λ (z : Strip). stripIn l ≡ z) (top-is T strips d k ∙ sym h-strip) (begins-strip whole l b)))
 
   -- a node count that differs
   pub no-count : (n : ℕ) → size whole ≡ n → (getD l countPlace (pos 0) ≡ pos n → ⊥) → Told 0 (size whole) (Begins whole l)
   no-count n e h = inl (refl, λ b. h (begins-count whole l b ∙ ap pos e))
 
-  pub yes-leaf : short T (strips d k) ≡ true → width ≤ length l → HasStrip l s → getD l countPlace (pos 0) ≡ pos 1 → Told 1 (size whole) (Begins whole l)
+  pub yes-leaf : short T (strips d k) ≡ true → width ≤ length l → stripIn l ≡ s → getD l countPlace (pos 0) ≡ pos 1 → Told 1 (size whole) (Begins whole l)
   yes-leaf e w t h =
       let i = at-short T strips d k e ∙ ap (λ (z : Strip). leaf z) (sym h-strip) in
       inr (sym (ap size i), subst (λ (t : Tree). Begins t l) (sym i) (leaf-begins l s w t h))
@@ -41,7 +42,7 @@ module _ (T : ℤ) (strips : ℕ → ℕ → Strip) (d k : ℕ) (s : Strip) (h-s
   pub no-right : Forked T strips d k → (Begins half-r (drop (width + width * size half-l) l) → ⊥) → Told 0 (size whole) (Begins whole l)
   no-right f h = inl (refl, λ b. h (node-right l (strips d k) half-l half-r (subst (λ (t : Tree). Begins t l) (f .is) b)))
 
-  pub yes-node : Forked T strips d k → width ≤ length l → HasStrip l s → Begins half-l (drop width l) → Begins half-r (drop (width + width * size half-l) l) → getD l countPlace (pos 0) ≡ pos (suc (size half-l + size half-r)) →
+  pub yes-node : Forked T strips d k → width ≤ length l → stripIn l ≡ s → Begins half-l (drop width l) → Begins half-r (drop (width + width * size half-l) l) → getD l countPlace (pos 0) ≡ pos (suc (size half-l + size half-r)) →
       Told (suc (size half-l + size half-r)) (size whole) (Begins whole l)
   yes-node f h t p q c =
       let i = f .is ∙ ap (λ (z : Strip). node z half-l half-r) (sym h-strip) in

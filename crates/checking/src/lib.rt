@@ -1,7 +1,12 @@
 // Does a store begin with an edge's strip tree: compared number by number as the tree is walked, up to the first difference.
-use arithmetic::COUNT;
-use arithmetic::WIDTH;
-use strips::Extent;
+use nodes::AXIS;
+use nodes::BOX;
+use nodes::CENTRE;
+use nodes::COUNT;
+use nodes::Extent;
+use nodes::WIDTH;
+use nodes::X;
+use nodes::Y;
 use strips::Shape;
 ghost use mathlib.Core.Path.{_≡_};
 ghost use mathlib.Core.Bool.{false};
@@ -10,9 +15,11 @@ ghost use lib.IntN.{pos, natAbs};
 ghost use lib.ListN.{length, getD};
 ghost use Rattle.model.specs.Store.{width, size};
 ghost use Rattle.ranges.specs.Sizes.{grainMost, SideSized};
-ghost use Rattle.subtrees.specs.Preorder.{countPlace, HasSide, HasStrip, Begins};
+ghost use Rattle.nodes.specs.Places.{countPlace, sideIn, stripIn};
+ghost use Rattle.subtrees.specs.Preorder.{Begins};
 ghost use Rattle.subtrees.specs.Subtrees.{subtree, Walkable};
-ghost use Rattle.strips.specs.Structs.{side, stripOf, stripsOf, ShapeSized};
+ghost use Rattle.nodes.specs.Structs.{side, stripOf};
+ghost use Rattle.strips.specs.Structs.{stripsOf, ShapeSized};
 ghost use Rattle.checking.specs.Answers.{Unless, Told};
 
 // is number i of s other than v
@@ -20,7 +27,7 @@ fn differs(s: &[i32], i: usize, v: i64) -> bool
     requires within { ⌜ i < length (now s) ⌝ }
     ensures unless { λ r. ⌜ Unless r (getD (now (s .entry)) i (pos 0) ≡ v) ⌝ }
 {
-    let a = arithmetic::wide_at(s, i);
+    let a = nodes::wide_at(s, i);
     if a == v { false } else { true }
 }
 
@@ -36,25 +43,25 @@ fn differs_count(s: &[i32], nodes: usize) -> bool
 // is the first node's strip another one in coordinate i
 fn differs_side(s: &[i32], i: usize, v: Extent) -> bool
     requires sizes { ⌜ (i < 2) × (width ≤ length (now s)) × SideSized (side v) ⌝ }
-    ensures unless { λ r. ⌜ Unless r (HasSide (now (s .entry)) i (side v)) ⌝ }
+    ensures unless { λ r. ⌜ Unless r (sideIn (now (s .entry)) i ≡ side v) ⌝ }
 {
-    if differs(s, i, v.centre) {
+    if differs(s, i + CENTRE, v.centre) {
         return true;
     }
-    if differs(s, i + 2, v.axis) {
+    if differs(s, i + AXIS, v.axis) {
         return true;
     }
-    differs(s, i + 4, v.half)
+    differs(s, i + BOX, v.half)
 }
 
 fn differs_strip(s: &[i32], x: Extent, y: Extent) -> bool
     requires sizes { ⌜ (width ≤ length (now s)) × SideSized (side x) × SideSized (side y) ⌝ }
-    ensures unless { λ r. ⌜ Unless r (HasStrip (now (s .entry)) (stripOf x y)) ⌝ }
+    ensures unless { λ r. ⌜ Unless r (stripIn (now (s .entry)) ≡ stripOf x y) ⌝ }
 {
-    if differs_side(s, 0, x) {
+    if differs_side(s, X, x) {
         return true;
     }
-    differs_side(s, 1, y)
+    differs_side(s, Y, y)
 }
 
 // the nodes of the piece's subtree if s begins with it, and 0 otherwise

@@ -9,8 +9,9 @@ use Rattle.model.specs.Trees.{Tree, leaf, long, node}
 use Rattle.model.specs.Store.{width, flatten}
 use Rattle.model.specs.Explore.{Cell, farthest², closest²}
 use Rattle.model.specs.Distance.{leaves, lesser, least}
-use Rattle.subtrees.specs.Preorder.{size-pos, countPlace}
-use Rattle.subtrees.specs.Halves.{stripIn, Halves, halves, parts}
+use Rattle.nodes.specs.Places.{countPlace, stripIn}
+use Rattle.subtrees.specs.Preorder.{size-pos}
+use Rattle.subtrees.specs.Halves.{Halves, halves, parts}
 use Rattle.boxes.specs.declared.Bounds.{Bounds}
 use Rattle.distance.specs.Least.{least-append, leaf-there}
 use Rattle.distance.specs.Answers.{BoundsOf}

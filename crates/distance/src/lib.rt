@@ -1,8 +1,8 @@
 // The bounds of a point's squared distance, from the leaves of the strip trees in a store. RULES, "Distance".
-use arithmetic::COUNT;
-use arithmetic::LEFT_COUNT;
-use arithmetic::WIDTH;
 use boxes::Bounds;
+use nodes::COUNT;
+use nodes::LEFT_COUNT;
+use nodes::WIDTH;
 ghost use mathlib.Core.Path.{_≡_};
 ghost use mathlib.Core.Bool.{true, cond};
 ghost use mathlib.Core.List.{List};
@@ -48,11 +48,11 @@ fn tree_bounds(part: &[i32], x: i64, y: i64) -> Bounds
     requires held { ⌜ TreeOf (now part) × (natAbs x ≤ 16000000) × (natAbs y ≤ 16000000) ⌝ }
     ensures bounds { λ r. ⌜ ((t : Tree) → now (part .entry) ≡ flatten t → BoundsOf (pointAt x y) (leaves t) r) ⌝ }
 {
-    let n = arithmetic::count_at(part, COUNT);
+    let n = nodes::count_at(part, COUNT);
     if n == 1 {
         return boxes::leaf_bounds(part, x, y);
     }
-    let k = arithmetic::count_at(part, LEFT_COUNT);
+    let k = nodes::count_at(part, LEFT_COUNT);
     let mid = WIDTH + WIDTH * k;
     let left = tree_bounds(&part[WIDTH..mid], x, y);
     let right = tree_bounds(&part[mid..], x, y);
@@ -91,7 +91,7 @@ fn nearest_from(s: &[i32], count: usize, x: i64, y: i64) -> Found
     requires held { ⌜ TreesOf (now s) count × (0 < count) × (count ≤ 64) × (natAbs x ≤ 16000000) × (natAbs y ≤ 16000000) ⌝ }
     ensures found { λ r. ⌜ ((ts : List Tree) → length ts ≡ count → BeginsAll ts (now (s .entry)) → FoundIn (pointAt x y) ts r) ⌝ }
 {
-    let n = arithmetic::count_at(s, COUNT);
+    let n = nodes::count_at(s, COUNT);
     let end = WIDTH * n;
     let first = tree_bounds(&s[0..end], x, y);
     if count == 1 {

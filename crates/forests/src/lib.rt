@@ -1,8 +1,8 @@
 // A job's strip trees, edge after edge: counted, built into a store, compared with one, and refused. RULES, "Store".
-use arithmetic::WIDTH;
 use model::LONG;
 use model::STORE;
 use model::STRANGER;
+use nodes::WIDTH;
 use strips::Power;
 use strips::Shape;
 ghost use mathlib.Core.Path.{_≡_};

@@ -10,7 +10,8 @@ use lib.ListN.{length, getD, take, drop, length-drop}
 use lib.Seq.{getD-drop}
 use Rattle.model.specs.Trees.{Tree}
 use Rattle.model.specs.Store.{width, size, flatten}
-use Rattle.subtrees.specs.Preorder.{size-pos, countPlace}
+use Rattle.nodes.specs.Places.{countPlace}
+use Rattle.subtrees.specs.Preorder.{size-pos}
 use Rattle.subtrees.specs.Fronts.{room, counted, size-read, first-part}
 use Rattle.open_edges.specs.Starts.{At}
 

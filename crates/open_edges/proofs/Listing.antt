@@ -10,7 +10,8 @@ use lib.Seq.{take-all, take-suc-set, drop-drop}
 use Rattle.model.specs.Trees.{Tree}
 use Rattle.model.specs.Store.{width, size}
 use Rattle.ranges.specs.Sizes.{EachSized}
-use Rattle.subtrees.specs.Preorder.{countPlace, BeginsAll, all-first, all-others}
+use Rattle.nodes.specs.Places.{countPlace}
+use Rattle.subtrees.specs.Preorder.{BeginsAll, all-first, all-others}
 use Rattle.subtrees.specs.Fronts.{Holds}
 use Rattle.open_edges.specs.Starts.{At, Starts, none}
 use Rattle.open_edges.specs.Looked.{starts-snoc}

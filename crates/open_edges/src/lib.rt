@@ -1,7 +1,7 @@
 // The edges that are open for a cell: where their trees start in the store, and the loop that asks each of them and keeps those that are not
 // away, so that no part of the cell asks them again.
-use arithmetic::COUNT;
-use arithmetic::WIDTH;
+use nodes::COUNT;
+use nodes::WIDTH;
 use search::Probe;
 ghost use mathlib.Core.Path.{_≡_};
 ghost use mathlib.Core.Bool.{true, false};
@@ -20,7 +20,7 @@ fn ask(store: &[i32], a: usize, probe: Probe) -> u8
     requires held { ⌜ TreeAt (now store) a × Fair probe ⌝ }
     ensures answer { λ e. ⌜ ((t : Tree) → At (now (store .entry)) a t → e ≡ code (explore (judgedBy probe) t)) ⌝ }
 {
-    let n = arithmetic::count_at(store, a + COUNT);
+    let n = nodes::count_at(store, a + COUNT);
     let b = a + WIDTH * n;
     search::search(&store[a..b], probe)
 }
@@ -77,7 +77,7 @@ pub fn list_starts(store: &[i32], count: usize, list: &mut [usize; 64])
     let mut e: usize = 0;
     while e < count {
         list[e] = at;
-        at += WIDTH * arithmetic::count_at(store, at + COUNT);
+        at += WIDTH * nodes::count_at(store, at + COUNT);
         e += 1;
     }
 }

@@ -13,8 +13,9 @@ use Rattle.model.specs.Explore.{Answer, inside, away, maybe, explore, join, set
 use Rattle.strip_tests.specs.PlainTests.{code}
 use Rattle.model.specs.Store.{width, flatten}
 use Rattle.ranges.specs.Sizes.{Sized, AllSized}
-use Rattle.subtrees.specs.Preorder.{size-pos, countPlace}
-use Rattle.subtrees.specs.Halves.{stripIn, Halves, halves, parts}
+use Rattle.nodes.specs.Places.{countPlace, stripIn}
+use Rattle.subtrees.specs.Preorder.{size-pos}
+use Rattle.subtrees.specs.Halves.{Halves, halves, parts}
 
 pub join-is : (a b : Answer) → cond (ltb (code a) (code b)) (code b) (code a) ≡ code (join a b)
 join-is inside inside = refl

@@ -1,10 +1,12 @@
 // A cell's answer from one edge's part of the store, by recursion on the two subtrees of a node. Answers are 0 away, 1 maybe, 2 inside, as
 // `code` gives them, so that joined the larger holds.
-use arithmetic::COUNT;
-use arithmetic::LEFT_COUNT;
-use arithmetic::WIDTH;
-use arithmetic::count_at;
-use arithmetic::wide_at;
+use nodes::COUNT;
+use nodes::LEFT_COUNT;
+use nodes::WIDTH;
+use nodes::X;
+use nodes::Y;
+use nodes::count_at;
+use nodes::extent_at;
 ghost use mathlib.Core.Path.{_≡_};
 ghost use mathlib.Core.Bool.{cond};
 ghost use Prim.Native.Nat.{_≤_, _<_};
@@ -17,7 +19,8 @@ ghost use Rattle.model.specs.Store.{width, flatten};
 ghost use Rattle.model.specs.Explore.{judged, explore};
 ghost use Rattle.ranges.specs.Sizes.{Sized, AllSized};
 ghost use Rattle.strip_tests.specs.PlainTests.{code};
-ghost use Rattle.subtrees.specs.Halves.{stripIn, TreeOf};
+ghost use Rattle.nodes.specs.Places.{stripIn};
+ghost use Rattle.subtrees.specs.Halves.{TreeOf};
 ghost use Rattle.search.specs.Probes.{CellSized, cellAt, judgedBy, Enough, Fair};
 
 // What a cell asks of every strip: the cell's centre and half side and the reach, in fine units, and the answer above which no strip goes.
@@ -52,13 +55,13 @@ fn own(part: &[i32], probe: Probe) -> u8
     requires sizes { ⌜ (width ≤ length (now part)) × Sized (stripIn (now part)) × Fair probe ⌝ }
     ensures answer { λ a. ⌜ a ≡ code (judgedBy probe (stripIn (now (part .entry)))) ⌝ }
 {
-    let wx = probe.x - wide_at(part, 0);
-    let wy = probe.y - wide_at(part, 1);
-    let p = wide_at(part, 2);
-    let q = wide_at(part, 3);
-    let a = wide_at(part, 4) + probe.s;
-    let b = wide_at(part, 5) + probe.s;
-    strip_tests::judge(wx, wy, p, q, a, b, probe.r)
+    let x = extent_at(part, X);
+    let y = extent_at(part, Y);
+    let wx = probe.x - x.centre;
+    let wy = probe.y - y.centre;
+    let a = x.half + probe.s;
+    let b = y.half + probe.s;
+    strip_tests::judge(wx, wy, x.axis, y.axis, a, b, probe.r)
 }
 
 fn join(l: u8, r: u8) -> u8

@@ -1,6 +1,6 @@
 // What one strip says of one cell, in 64-bit numbers and with no square root. Taken apart into the tests of RULES, "Explore",
 // each over plain numbers: w from the strip's centre to the cell's, the axis (p, q), the box halves with the half side.
-use arithmetic::abs;
+use rounding::abs;
 ghost use mathlib.Core.Path.{_≡_};
 ghost use Prim.Native.Nat.{_≤_};
 ghost use lib.IntN.{natAbs};

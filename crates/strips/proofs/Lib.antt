@@ -1,3 +1,3 @@
 -- Laws that belong to no one function.
-pub mod Records
+pub mod Results
 pub mod Coefficients

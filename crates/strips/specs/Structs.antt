@@ -2,10 +2,9 @@
 use Prim.Native.Nat.{ℕ}
 use lib.IntN.{ℤ}
 use Rattle.model.specs.Jobs.{Cubic}
-use Rattle.model.specs.Strips.{PowerForm, Side, Strip, denominator, middle, sideAt}
+use Rattle.model.specs.Strips.{PowerForm, Strip, denominator, middle, sideAt}
 use Rattle.ranges.specs.PowerForm.{FormSized}
 use Rattle.strips.specs.declared.Power.{Power}
-use Rattle.strips.specs.declared.Extent.{Extent}
 use Rattle.strips.specs.declared.Shape.{Shape}
 
 abbrev pub cubic : ℤ → ℤ → ℤ → ℤ → Cubic
@@ -13,12 +12,6 @@ cubic b0 b1 b2 b3 = record { b0 = b0; b1 = b1; b2 = b2; b3 = b3 }
 
 abbrev pub form : Power → PowerForm
 form c = record { c0 = c .c0; c1 = c .c1; c2 = c .c2; c3 = c .c3 }
-
-abbrev pub side : Extent → Side
-side s = record { centre = s .centre; axis = s .axis; box = s .half }
-
-abbrev pub stripOf : Extent → Extent → Strip
-stripOf x y = record { x = side x; y = side y }
 
 -- ---- a shape's strips, piece k of depth d for each d and k, and the sizes for which none of their numbers leaves 64 bits
 unfoldable pub stripsOf : Shape → ℕ → ℕ → Strip

@@ -1,4 +1,5 @@
 // The power form of an edge, and the strip of a piece of it, in 64-bit numbers. RULES, "Strips".
+use nodes::Extent;
 ghost use mathlib.Core.Path.{_≡_};
 ghost use Prim.Native.Nat.{_≤_, _<_};
 ghost use lib.Dec.{T};
@@ -8,7 +9,8 @@ ghost use Rattle.model.specs.Strips.{powerOf, a0, a1, a2, centreOf, axisOf, sec
 ghost use Rattle.ranges.specs.Sizes.{grainMost, ControlSized, SideSized, Sized};
 ghost use Rattle.ranges.specs.PowerForm.{FormSized, nMost, cubeMost, a0Most, a1Most, a2Most, secondMost, thirdMost};
 ghost use Rattle.subtrees.specs.Subtrees.{PieceAt};
-ghost use Rattle.strips.specs.Structs.{cubic, form, side, stripOf, stripsOf, ShapeSized};
+ghost use Rattle.nodes.specs.Structs.{side, stripOf};
+ghost use Rattle.strips.specs.Structs.{cubic, form, stripsOf, ShapeSized};
 
 // The power form in one coordinate.
 pub struct Power {
@@ -22,13 +24,6 @@ pub struct Power {
 pub struct Shape {
     pub x: Power,
     pub y: Power,
-}
-
-// A strip in one coordinate: its centre, its axis and half its box.
-pub struct Extent {
-    pub centre: i64,
-    pub axis: i64,
-    pub half: i64,
 }
 
 // A piece's strip, and whether it is short.
@@ -96,7 +91,7 @@ fn centre_of(c: Power, n: i64, m: i64, cube: i64) -> i64
 {
     let a0 = a0_of(c, n, m);
     let a2 = a2_of(c, n, m);
-    let q = arithmetic::rounded(16 * a0 + 8 * a2, cube);
+    let q = rounding::rounded(16 * a0 + 8 * a2, cube);
     q.nearest
 }
 
@@ -106,7 +101,7 @@ fn axis_of(c: Power, n: i64, m: i64, cube: i64) -> i64
 {
     let a1 = a1_of(c, n, m);
     let a3 = c.c3;
-    let q = arithmetic::rounded(16 * a1 + 12 * a3, cube);
+    let q = rounding::rounded(16 * a1 + 12 * a3, cube);
     q.nearest
 }
 
@@ -116,9 +111,9 @@ fn box_of(c: Power, n: i64, m: i64, cube: i64) -> i64
 {
     let a2 = a2_of(c, n, m);
     let a3 = c.c3;
-    let second = arithmetic::rounded(8 * a2, cube);
-    let third = arithmetic::rounded(4 * a3, cube);
-    arithmetic::abs(second.nearest) + arithmetic::abs(third.nearest) + 2
+    let second = rounding::rounded(8 * a2, cube);
+    let third = rounding::rounded(4 * a3, cube);
+    rounding::abs(second.nearest) + rounding::abs(third.nearest) + 2
 }
 
 // the strip of the piece with N = n and the middle m, in one coordinate
@@ -147,7 +142,7 @@ fn fits(s: Extent, grain: i64) -> bool
 {
     let axis = s.axis;
     let half = s.half;
-    arithmetic::abs(axis) + half <= 16 * grain
+    rounding::abs(axis) + half <= 16 * grain
 }
 
 fn is_short(x: Extent, y: Extent, grain: i64) -> bool

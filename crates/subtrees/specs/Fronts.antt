@@ -11,7 +11,8 @@ use lib.Seq.{take-at}
 use Rattle.model.specs.Trees.{Tree}
 use Rattle.model.specs.Store.{width, size, flatten}
 use Rattle.ranges.specs.Sizes.{EachSized}
-use Rattle.subtrees.specs.Preorder.{size-pos, length-flatten, countPlace, Begins, BeginsAll, begins-count}
+use Rattle.nodes.specs.Places.{countPlace}
+use Rattle.subtrees.specs.Preorder.{size-pos, length-flatten, Begins, BeginsAll, begins-count}
 
 -- ---- the list begins with the k trees ts, and with some k trees
 pub record Holds (l : List ℤ) (k : ℕ) (ts : List Tree) : Type 0 where

@@ -8,19 +8,14 @@ use lib.IntN.{ℤ, pos, natAbs}
 use lib.Signed.{nonNeg}
 use lib.ListN.{length, getD, take, drop, length-append, length-drop}
 use lib.Seq.{take-at, take-all, drop-at, drop-drop}
-use Rattle.model.specs.Strips.{Side, Strip}
+use Rattle.model.specs.Strips.{Strip}
 use Rattle.model.specs.Trees.{Tree, leaf, long, node}
 use Rattle.model.specs.Store.{width, size, flatten}
 use Rattle.ranges.specs.Sizes.{Sized, AllSized}
-use Rattle.subtrees.specs.Preorder.{size-pos, length-flatten, countPlace, count-first, top}
+use Rattle.nodes.specs.Places.{countPlace, stripIn}
+use Rattle.subtrees.specs.Preorder.{size-pos, length-flatten, count-first, top}
 
--- ---- the first node's strip, as it is read
-abbrev pub sideIn : List ℤ → ℕ → Side
-sideIn l i = record { centre = getD l i (pos 0); axis = getD l (i + 2) (pos 0); box = getD l (i + 4) (pos 0) }
-
-abbrev pub stripIn : List ℤ → Strip
-stripIn l = record { x = sideIn l 0; y = sideIn l 1 }
-
+-- ---- the first node's strip
 pub strip-in : (t : Tree) → stripIn (flatten t) ≡ top t
 strip-in (leaf s) = refl
 strip-in (long s) = refl

@@ -6,9 +6,11 @@ use native.Mathlib.Omega.{arith}
 use lib.IntN.{ℤ, pos}
 use lib.ListN.{length, getD, take, drop, length-append, length-drop}
 use lib.Seq.{take-all, drop-at, drop-drop}
-use Rattle.model.specs.Strips.{Side, Strip}
+use Rattle.model.specs.Strips.{Strip}
 use Rattle.model.specs.Trees.{Tree, leaf, long, node}
 use Rattle.model.specs.Store.{width, size, sizes, numbers, flatten, flattenAll}
+use Rattle.nodes.specs.Places as nodes
+use Rattle.nodes.specs.Places.{countPlace, stripIn, strip-placed}
 
 -- ---- how many numbers
 pub size-pos : (t : Tree) → 1 ≤ size t
@@ -46,16 +48,7 @@ pub all-begun : (l r : List ℤ) (ts : List Tree) → l ≡ flattenAll ts ++ r �
 all-begun l r ts e =
     e ∙ ap (λ (z : List ℤ). flattenAll ts ++ z) (sym (ap (λ (z : List ℤ). drop (width * sizes ts) z) e ∙ drop-at (flattenAll ts) r (width * sizes ts) (length-all ts)))
 
--- ---- places inside a node: a strip's coordinate i has its centre, its axis and its box two apart, and the node count stands last
-abbrev pub countPlace : ℕ
-countPlace = 6
-
-abbrev pub HasSide : List ℤ → ℕ → Side → Type 0
-HasSide l i s = (getD l i (pos 0) ≡ s .centre) × (getD l (i + 2) (pos 0) ≡ s .axis) × (getD l (i + 4) (pos 0) ≡ s .box)
-
--- the first node's strip is s
-abbrev pub HasStrip : List ℤ → Strip → Type 0
-HasStrip l s = HasSide l 0 (s .x) × HasSide l 1 (s .y)
+-- ---- the first node: its strip and its count are read at their places
 
 -- the node count of the first node, whatever follows the tree
 pub count-first : (t : Tree) (rest : List ℤ) → getD (flatten t ++ rest) countPlace (pos 0) ≡ pos (size t)
@@ -63,29 +56,18 @@ count-first (leaf s) rest = refl
 count-first (long s) rest = refl
 count-first (node s l r) rest = refl
 
--- a list by its first numbers
-heads : (l : List ℤ) → width ≤ length l → l ≡ getD l 0 (pos 0) ∷ getD l 1 (pos 0) ∷ getD l 2 (pos 0) ∷ getD l 3 (pos 0) ∷ getD l 4 (pos 0) ∷ getD l 5 (pos 0) ∷ getD l 6 (pos 0) ∷ drop width l
-heads [] h = absurd (omega arith)
-heads (a ∷ []) h = absurd (omega arith)
-heads (a ∷ b ∷ []) h = absurd (omega arith)
-heads (a ∷ b ∷ c ∷ []) h = absurd (omega arith)
-heads (a ∷ b ∷ c ∷ d ∷ []) h = absurd (omega arith)
-heads (a ∷ b ∷ c ∷ d ∷ e ∷ []) h = absurd (omega arith)
-heads (a ∷ b ∷ c ∷ d ∷ e ∷ f ∷ []) h = absurd (omega arith)
-heads (a ∷ b ∷ c ∷ d ∷ e ∷ f ∷ g ∷ l) h = refl
+front : (l : List ℤ) (s : Strip) (n : ℕ) → width ≤ length l → stripIn l ≡ s → getD l countPlace (pos 0) ≡ pos n → l ≡ numbers s n (drop width l)
+front l s n h k c = nodes.front l n h c ∙ ap (λ (z : Strip). numbers z n (drop width l)) k
 
-front : (l : List ℤ) (s : Strip) (n : ℕ) → width ≤ length l → HasStrip l s → getD l countPlace (pos 0) ≡ pos n → l ≡ numbers s n (drop width l)
-front l s n h k c = heads l h ∙ rw (k .0 .0, k .1 .0, k .0 .1, k .1 .1, k .0 .2, k .1 .2, c)
-
-strip-of : (l r : List ℤ) (s : Strip) (n : ℕ) → l ≡ numbers s n r → HasStrip l s
-strip-of l r s n e = rw e ((refl, refl, refl), (refl, refl, refl))
+strip-of : (l r : List ℤ) (s : Strip) (n : ℕ) → l ≡ numbers s n r → stripIn l ≡ s
+strip-of l r s n e = ap stripIn e ∙ strip-placed s n r
 
 abbrev pub top : Tree → Strip
 top (leaf s) = s
 top (long s) = s
 top (node s l r) = s
 
-pub begins-strip : (t : Tree) (l : List ℤ) → Begins t l → HasStrip l (top t)
+pub begins-strip : (t : Tree) (l : List ℤ) → Begins t l → stripIn l ≡ top t
 begins-strip (leaf s) l e = strip-of l (drop width l) s 1 e
 begins-strip (long s) l e = strip-of l (drop width l) s 1 e
 begins-strip (node s a b) l e = strip-of l ((flatten a ++ flatten b) ++ drop (width * suc (size a + size b)) l) s (suc (size a + size b)) e
@@ -93,7 +75,7 @@ begins-strip (node s a b) l e = strip-of l ((flatten a ++ flatten b) ++ drop (wi
 pub begins-count : (t : Tree) (l : List ℤ) → Begins t l → getD l countPlace (pos 0) ≡ pos (size t)
 begins-count t l e = ap (λ (z : List ℤ). getD z countPlace (pos 0)) e ∙ count-first t (drop (width * size t) l)
 
-pub leaf-begins : (l : List ℤ) (s : Strip) → width ≤ length l → HasStrip l s → getD l countPlace (pos 0) ≡ pos 1 → Begins (leaf s) l
+pub leaf-begins : (l : List ℤ) (s : Strip) → width ≤ length l → stripIn l ≡ s → getD l countPlace (pos 0) ≡ pos 1 → Begins (leaf s) l
 leaf-begins l s h k c = front l s 1 h k c
 
 -- ---- a node and its halves
@@ -108,7 +90,7 @@ node-right l s a b e =
     begun (drop (width + width * size a) l) (drop (width * suc (size a + size b)) l) b
     (sym (drop-drop (width * size a) width l) ∙ later (drop width l) (flatten b ++ drop (width * suc (size a + size b)) l) a (after l s a b e))
 
-pub node-begins : (l : List ℤ) (s : Strip) (a b : Tree) → width ≤ length l → HasStrip l s → Begins a (drop width l) → Begins b (drop (width + width * size a) l) → getD l countPlace (pos 0) ≡ pos (suc (size a + size b)) →
+pub node-begins : (l : List ℤ) (s : Strip) (a b : Tree) → width ≤ length l → stripIn l ≡ s → Begins a (drop width l) → Begins b (drop (width + width * size a) l) → getD l countPlace (pos 0) ≡ pos (suc (size a + size b)) →
     Begins (node s a b) l
 node-begins l s a b h k p q c =
     let i : width + width * size a + width * size b ≡ width * suc (size a + size b) = omega arith in

@@ -4,7 +4,7 @@ use borrow.Author.Needs.{needs}
 use mir.Facts.{toZ-ofZ}
 use Rattle.integers.specs.Signed.{read64, held, back}
 use Rattle.model.specs.Explore.{squares}
-use Rattle.subtrees.specs.Halves.{sideIn}
+use Rattle.nodes.specs.Places.{sideIn}
 use Rattle.boxes.specs.Ranges.{RangeOf}
 use Rattle.boxes.proofs.leaf_bounds.Statement.{statement}
 use Rattle.boxes.proofs.leaf_bounds.Tie as tie

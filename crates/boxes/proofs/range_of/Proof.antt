@@ -9,7 +9,8 @@ use Rattle.integers.specs.Absolute.{absℤ, abs-size}
 use Rattle.integers.specs.Signed.{Made, arg, plus, minus, back, called, sized}
 use Rattle.model.specs.Strips.{Side}
 use Rattle.model.specs.Explore.{atLeast0}
-use Rattle.subtrees.specs.Halves.{sideIn}
+use Rattle.nodes.specs.Places.{sideIn}
+use Rattle.nodes.specs.Structs.{Known, known}
 use Rattle.boxes.proofs.Clamps.{clamp-size}
 use Rattle.boxes.proofs.range_of.Statement.{statement}
 use Rattle.boxes.proofs.range_of.Tie as tie
@@ -20,31 +21,25 @@ box-side s = sideIn (s .args .part .now) (s .args .i)
 point : (s : tie.Start) → Made (s .args .c) (s .args .c) 16000000
 point s = arg (s .pre .3) (s .fits .c)
 
-module _ (c : tie.After-wide-at3) where
-  abbrev start : tie.Start
-  start = c .before .before .before
-
-  centre : Made (c .before .before .wide-at .result) (box-side start .centre) 536870912
-  centre = called (c .before .before .wide-at .ensures) (start .pre .2 .centre-size) tt
-
-  axis : Made (c .before .wide-at2 .result) (box-side start .axis) 536870912
-  axis = called (c .before .wide-at2 .ensures) (start .pre .2 .axis-size) tt
-
-  half : Made (c .wide-at3 .result) (box-side start .box) 134217728
-  half = called (c .wide-at3 .ensures) (start .pre .2 .box-size) tt
+-- the strip's numbers
+numbers : (c : tie.After-extent-at) → Known (c .extent-at .result) (box-side (c .before))
+numbers c = known (c .extent-at .result) (box-side (c .before)) (c .extent-at .ensures) (c .before .pre .2)
 
 module _ (c : tie.After-abs2) where
-  abbrev from : tie.Start
-  from = start (c .before .before)
+  abbrev strip : tie.After-extent-at
+  strip = c .before .before .before .before .before .before
 
-  w : Made (c .before .abs .result) (absℤ (from .args .c -ℤ box-side from .centre)) 552870912
+  abbrev from : tie.Start
+  from = strip .before
+
+  w : Made (c .before .before .abs .result) (absℤ (from .args .c -ℤ box-side from .centre)) 552870912
   w =
-      let d = minus (point from) (centre (c .before .before)) tt in
-      called (c .before .abs .ensures ∙ ap absℤ (back d)) (rw abs-size (d .within)) tt
+      let d = minus (point from) (numbers strip .centre) tt in
+      called (c .before .before .abs .ensures ∙ ap absℤ (back d)) (rw abs-size (d .within)) tt
 
   a : Made (c .abs2 .result) (absℤ (box-side from .axis)) 536870912
   a =
-      let d = axis (c .before .before) in
+      let d = numbers strip .axis in
       called (c .abs2 .ensures ∙ ap absℤ (back d)) (rw abs-size (d .within)) tt
 
 -- what is left of the distance of the centres once the box is taken off, and what they make together
@@ -55,49 +50,37 @@ module _ {u v t W A B : ℤ} (p : Made u W 552870912) (q : Made v A 536870912) (
   far : Made (toZ w64 (ofZ w64 (toZ w64 (ofZ w64 u) +ℤ toZ w64 (ofZ w64 v))) +ℤ toZ w64 (ofZ w64 t)) (W +ℤ A +ℤ B) 1223959552
   far = plus (plus p q tt) r tt
 
-wide-at-requires : tie.Need-wide-at-requires
-wide-at-requires c κs = search needs
-
-add-wide-at : tie.Need-add-wide-at
-add-wide-at c = search needs
-
-wide-at-requires-2 : tie.Need-wide-at-requires-2
-wide-at-requires-2 c κs = search needs
-
-add-wide-at-2 : tie.Need-add-wide-at-2
-add-wide-at-2 c = search needs
-
-wide-at-requires-3 : tie.Need-wide-at-requires-3
-wide-at-requires-3 c κs = search needs
+extent-at-requires : tie.Need-extent-at-requires
+extent-at-requires c κs = search needs
 
 sub-abs : tie.Need-sub-abs
-sub-abs c = (minus (point (start c)) (centre c) tt) .fits
+sub-abs c = (minus (point (c .before .before .before .before)) (numbers (c .before .before .before) .centre) tt) .fits
 
 abs-requires : tie.Need-abs-requires
-abs-requires c κs = sized 4000000000000000000 (minus (point (start c)) (centre c) tt) tt
+abs-requires c κs = sized 4000000000000000000 (minus (point (c .before .before .before .before)) (numbers (c .before .before .before) .centre) tt) tt
 
 abs-requires-2 : tie.Need-abs-requires-2
-abs-requires-2 c κs = sized 4000000000000000000 (axis (c .before)) tt
+abs-requires-2 c κs = sized 4000000000000000000 (numbers (c .before .before .before .before .before) .axis) tt
 
 sub-at-least-0 : tie.Need-sub-at-least-0
 sub-at-least-0 c = (minus (w c) (a c) tt) .fits
 
 sub-at-least-0-2 : tie.Need-sub-at-least-0-2
-sub-at-least-0-2 c = room (w c) (a c) (half (c .before .before)) .fits
+sub-at-least-0-2 c = room (w c) (a c) (numbers (strip c) .half) .fits
 
 at-least-0-requires : tie.Need-at-least-0-requires
 at-least-0-requires c κs = search needs
 
-add-t11 : tie.Need-add-t11
-add-t11 c = (plus (w (c .before)) (a (c .before)) tt) .fits
+add-t9 : tie.Need-add-t9
+add-t9 c = (plus (w (c .before)) (a (c .before)) tt) .fits
 
-add-t12 : tie.Need-add-t12
-add-t12 c = let d = c .before in far (w d) (a d) (half (d .before .before)) .fits
+add-t10 : tie.Need-add-t10
+add-t10 c = let d = c .before in far (w d) (a d) (numbers (strip d) .half) .fits
 
 returns : tie.Need-returns
 returns c =
     let d = c .before in
-    let b = half (d .before .before) in
+    let b = numbers (strip d) .half in
     let s = from d in
     let W = absℤ (s .args .c -ℤ box-side s .centre) in
     let A = absℤ (box-side s .axis) in
@@ -116,17 +99,13 @@ pub range-of-spec : {M : Type 1} → statement M
 range-of-spec =
     tie.close
     (tie.spec
-    wide-at-requires
-    add-wide-at
-    wide-at-requires-2
-    add-wide-at-2
-    wide-at-requires-3
+    extent-at-requires
     sub-abs
     abs-requires
     abs-requires-2
     sub-at-least-0
     sub-at-least-0-2
     at-least-0-requires
-    add-t11
-    add-t12
+    add-t9
+    add-t10
     returns)

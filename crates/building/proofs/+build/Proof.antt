@@ -12,7 +12,8 @@ use Rattle.model.specs.Trees.{Tree, deepest}
 use Rattle.model.specs.Store.{width, size, flatten}
 use Rattle.subtrees.specs.Preorder.{size-pos}
 use Rattle.subtrees.specs.Subtrees.{subtree, left-half, right-half, place-most, at-short, few, Forked, forked}
-use Rattle.strips.specs.Structs.{stripOf, stripsOf}
+use Rattle.nodes.specs.Structs.{stripOf}
+use Rattle.strips.specs.Structs.{stripsOf}
 use Rattle.building.proofs.Halves.{both, put-eq}
 use Prim.Native.Nat.{ℕ, _<_}
 use borrow.Fn.Kinds.{In}
@@ -20,7 +21,7 @@ use borrow.Fn.PlainCycle.{Measures, is, falls, and}
 use Rattle.building.proofs.build.Reads as build
 use Rattle.building.proofs.build.Kinds as build-kinds
 use Rattle.building.proofs.+build.Lts-build as build-lts
-use Rattle.building.proofs.put.Reads as put-reads
+use Rattle.nodes.proofs.put.Reads as put-reads
 use Rattle.strips.proofs.piece_of.Reads as piece-of-reads
 use Rattle.building.proofs.+build.{statement}
 use Rattle.building.proofs.+build.Tie.{close}

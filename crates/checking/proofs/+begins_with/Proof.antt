@@ -8,9 +8,11 @@ use lib.ListN.{length, getD, drop, length-drop}
 use Rattle.model.specs.Strips.{short}
 use Rattle.model.specs.Trees.{Tree, deepest}
 use Rattle.model.specs.Store.{width, size}
-use Rattle.subtrees.specs.Preorder.{size-pos, tail, countPlace, HasStrip, Begins}
+use Rattle.nodes.specs.Places.{countPlace, stripIn}
+use Rattle.subtrees.specs.Preorder.{size-pos, tail, Begins}
 use Rattle.subtrees.specs.Subtrees.{subtree, left-half, right-half, place-most, at-short, few, Forked, forked}
-use Rattle.strips.specs.Structs.{stripOf, stripsOf}
+use Rattle.nodes.specs.Structs.{stripOf}
+use Rattle.strips.specs.Structs.{stripsOf}
 use Rattle.checking.specs.Answers.{Unless, Told, unless-true, unless-false, refused, granted}
 use Rattle.checking.proofs.Found.{no-strip, no-count, yes-leaf, no-left, no-right, yes-node}
 use Prim.Native.Nat.{ℕ, _<_}
@@ -55,10 +57,10 @@ short-is t c = rw (toZ-ofZ (c .before .fits .grain)) at (c .piece-of .ensures .1
 strip-is : (t : ℕ) (c : begins-with-lts.After-piece-of (callees t) (begins-with-at t) begins-with.Post) → let s = c .before in stripOf (c .piece-of .result .x) (c .piece-of .result .y) ≡ stripsOf (s .args .shape) (s .args .d) (s .args .k)
 strip-is t c = c .piece-of .ensures .0
 
-strip-at : (t : ℕ) (c : begins-with-lts.Else1 (callees t) (begins-with-at t) begins-with.Post) → let a = c .before .before .before .before in HasStrip (a .before .args .s .now) (stripOf (a .piece-of .result .x) (a .piece-of .result .y))
+strip-at : (t : ℕ) (c : begins-with-lts.Else1 (callees t) (begins-with-at t) begins-with.Post) → let a = c .before .before .before .before in stripIn (a .before .args .s .now) ≡ stripOf (a .piece-of .result .x) (a .piece-of .result .y)
 strip-at t c =
     let a = c .before .before .before .before in
-    unless-false (c .before .differs-strip .result) (HasStrip (a .before .args .s .now) (stripOf (a .piece-of .result .x) (a .piece-of .result .y))) (c .before .differs-strip .ensures) (c .if1 .left)
+    unless-false (c .before .differs-strip .result) (stripIn (a .before .args .s .now) ≡ stripOf (a .piece-of .result .x) (a .piece-of .result .y)) (c .before .differs-strip .ensures) (c .if1 .left)
 
 fork-at : (t : ℕ) (c : begins-with-lts.Else2 (callees t) (begins-with-at t) begins-with.Post) → let s = c .before .before .before .before .before .before in Forked (s .args .grain) (stripsOf (s .args .shape)) (s .args .d) (s .args .k)
 fork-at t c =
@@ -113,7 +115,7 @@ begins-with-returns : (t : ℕ) → begins-with-lts.Need-returns (callees t) (be
 begins-with-returns t c =
     let s = c .before .before .before .before .before in
     let a = c .before .before .before .before in
-    no-strip (s .args .grain) (stripsOf (s .args .shape)) (s .args .d) (s .args .k) (stripOf (a .piece-of .result .x) (a .piece-of .result .y)) (strip-is t a) (s .args .s .now) (unless-true (c .before .differs-strip .result) (HasStrip (s .args .s .now) (stripOf (a .piece-of .result .x) (a .piece-of .result .y))) (c .before .differs-strip .ensures) (c .if1 .taken))
+    no-strip (s .args .grain) (stripsOf (s .args .shape)) (s .args .d) (s .args .k) (stripOf (a .piece-of .result .x) (a .piece-of .result .y)) (strip-is t a) (s .args .s .now) (unless-true (c .before .differs-strip .result) (stripIn (s .args .s .now) ≡ stripOf (a .piece-of .result .x) (a .piece-of .result .y)) (c .before .differs-strip .ensures) (c .if1 .taken))
 
 begins-with-differs-count-requires : (t : ℕ) → begins-with-lts.Need-differs-count-requires (callees t) (begins-with-at t) begins-with.Post
 begins-with-differs-count-requires t c κs = (seven t (c .before .before .before .before .before .before), omega arith)

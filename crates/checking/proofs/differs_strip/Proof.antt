@@ -1,6 +1,8 @@
 -- x answers where it differs, and otherwise y answers for both. Assumes nothing.
-use Rattle.subtrees.specs.Preorder.{HasSide, HasStrip}
-use Rattle.strips.specs.Structs.{side, stripOf}
+use mathlib.Core.Path.{_≡_, ap}
+use Rattle.model.specs.Strips.{Strip}
+use Rattle.nodes.specs.Places.{sideIn, stripIn, strip-eq}
+use Rattle.nodes.specs.Structs.{side, stripOf}
 use Rattle.checking.specs.Answers.{unless-true, unless-false, unless-last}
 use borrow.Author.Needs.{needs}
 use Rattle.checking.proofs.differs_strip.Statement.{statement}
@@ -10,7 +12,7 @@ differs-side-requires : tie.Need-differs-side-requires
 differs-side-requires c κs = search needs
 
 returns : tie.Need-returns
-returns c = λ h. let s = c .before .before in unless-true (c .before .differs-side .result) (HasSide (s .args .s .now) 0 (side (s .args .x))) (c .before .differs-side .ensures) (c .if1 .taken) (h .0)
+returns c = λ h. let s = c .before .before in unless-true (c .before .differs-side .result) (sideIn (s .args .s .now) 0 ≡ side (s .args .x)) (c .before .differs-side .ensures) (c .if1 .taken) (ap (λ (z : Strip). z .x) h)
 
 differs-side-requires-2 : tie.Need-differs-side-requires-2
 differs-side-requires-2 c κs = search needs
@@ -19,8 +21,8 @@ returns-2 : tie.Need-returns-2
 returns-2 c =
     let s = c .before .before .before in
     let l = s .args .s .now in
-    let e = unless-false (c .before .before .differs-side .result) (HasSide l 0 (side (s .args .x))) (c .before .before .differs-side .ensures) (c .before .if1 .left) in
-    unless-last (c .differs-side2 .result) (HasSide l 1 (side (s .args .y))) (HasStrip l (stripOf (s .args .x) (s .args .y))) (λ g. (e, g)) (λ h. h .1) (c .differs-side2 .ensures)
+    let e = unless-false (c .before .before .differs-side .result) (sideIn l 0 ≡ side (s .args .x)) (c .before .before .differs-side .ensures) (c .before .if1 .left) in
+    unless-last (c .differs-side2 .result) (sideIn l 1 ≡ side (s .args .y)) (stripIn l ≡ stripOf (s .args .x) (s .args .y)) (λ g. strip-eq e g) (λ h. ap (λ (z : Strip). z .y) h) (c .differs-side2 .ensures)
 
 pub differs-strip-spec : {M : Type 1} → statement M
 differs-strip-spec =

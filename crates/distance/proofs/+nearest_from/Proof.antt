@@ -24,7 +24,7 @@ use borrow.Fn.PlainCycle.{Measures, is, falls, and}
 use Rattle.distance.proofs.nearest_from.Reads as nearest-from
 use Rattle.distance.proofs.nearest_from.Kinds as nearest-from-kinds
 use Rattle.distance.proofs.+nearest_from.Lts-nearest_from as nearest-from-lts
-use Rattle.arithmetic.proofs.count_at.Reads as count-at-reads
+use Rattle.nodes.proofs.count_at.Reads as count-at-reads
 use Rattle.distance.proofs.join_edge.Reads as join-edge-reads
 use Rattle.distance.proofs.tree_bounds.Reads as tree-bounds-reads
 use Rattle.distance.proofs.+nearest_from.{statement}

@@ -12,7 +12,7 @@ use Rattle.model.specs.Trees.{Tree}
 use Rattle.model.specs.Store.{width, flatten}
 use Rattle.model.specs.Explore.{Cell}
 use Rattle.model.specs.Distance.{leaves}
-use Rattle.subtrees.specs.Preorder.{countPlace}
+use Rattle.nodes.specs.Places.{countPlace}
 use Rattle.subtrees.specs.Halves.{front, first-sized, counted, split, left-counted, Read, read, below}
 use Rattle.boxes.specs.Ranges.{pointAt}
 use Rattle.distance.specs.Answers.{BoundsOf}
@@ -23,7 +23,7 @@ use borrow.Fn.PlainCycle.{Measures, is, falls, and}
 use Rattle.distance.proofs.tree_bounds.Reads as tree-bounds
 use Rattle.distance.proofs.tree_bounds.Kinds as tree-bounds-kinds
 use Rattle.distance.proofs.+tree_bounds.Lts-tree_bounds as tree-bounds-lts
-use Rattle.arithmetic.proofs.count_at.Reads as count-at-reads
+use Rattle.nodes.proofs.count_at.Reads as count-at-reads
 use Rattle.distance.proofs.join.Reads as join-reads
 use Rattle.boxes.proofs.leaf_bounds.Reads as leaf-bounds-reads
 use Rattle.distance.proofs.+tree_bounds.{statement}

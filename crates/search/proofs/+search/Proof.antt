@@ -13,8 +13,8 @@ use Rattle.model.specs.Explore.{Answer, explore}
 use Rattle.strip_tests.specs.PlainTests.{code}
 use Rattle.model.specs.Store.{width, flatten}
 use Rattle.ranges.specs.Sizes.{AllSized}
-use Rattle.subtrees.specs.Preorder.{countPlace}
-use Rattle.subtrees.specs.Halves.{stripIn, front, first-sized, counted, split, left-counted, Read, read, below}
+use Rattle.nodes.specs.Places.{countPlace, stripIn}
+use Rattle.subtrees.specs.Halves.{front, first-sized, counted, split, left-counted, Read, read, below}
 use Rattle.search.specs.Probes.{judgedBy, Enough}
 use Rattle.search.proofs.Finds.{join-is, most, closed, one, both, stop}
 use Prim.Native.Nat.{ℕ, _<_}
@@ -24,7 +24,7 @@ use Rattle.search.proofs.search.Reads as search′
 use Rattle.search.proofs.search.Kinds as search-kinds
 use Rattle.search.proofs.+search.Lts-search as search-lts
 use Rattle.search.proofs.join.Reads as join-reads
-use Rattle.arithmetic.proofs.count_at.Reads as count-at-reads
+use Rattle.nodes.proofs.count_at.Reads as count-at-reads
 use Rattle.search.proofs.own.Reads as own-reads
 use Rattle.search.proofs.+search.{statement}
 use Rattle.search.proofs.+search.Tie.{close}

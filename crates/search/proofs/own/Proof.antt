@@ -1,144 +1,99 @@
--- `search::own` meets its contract: z0 to z5 are the numbers of the first node. Assumes nothing.
-use Rattle.integers.specs.Signed.{Made, called, held, plus, minus, back}
-use lib.IntN.{pos}
+-- `search::own` meets its contract: each number is a step away from one of the first node's or of the probe's. Assumes nothing.
+use Rattle.integers.specs.Signed.{Made, held, plus, minus, back}
 use mathlib.Core.Path.{_∙_, ap}
-use lib.ListN.{getD}
+use lib.IntN.{ℤ, _+ℤ_, _-ℤ_}
+use mir.Syntax.{w64}
+use mir.Val.{toZ, ofZ}
 use Rattle.strip_tests.specs.PlainTests.{code, judge-is}
-use Rattle.subtrees.specs.Halves.{stripIn}
+use Rattle.nodes.specs.Places.{sideIn, stripIn}
+use Rattle.nodes.specs.Structs.{Known, known}
 use Rattle.search.specs.Probes.{cellAt}
 use borrow.Author.Needs.{needs}
 use Rattle.search.proofs.own.Statement.{statement}
 use Rattle.search.proofs.own.Tie as tie
 
-module _ (c : tie.Start) where
-  x : Made (c .args .probe .x) (c .args .probe .x) 536870912
-  x = held (c .args .probe .x) (c .pre .2 .cell .cx-size) tt
+abbrev bits : ℤ → ℤ
+bits u = toZ w64 (ofZ w64 u)
 
-  y : Made (c .args .probe .y) (c .args .probe .y) 536870912
-  y = held (c .args .probe .y) (c .pre .2 .cell .cy-size) tt
+module _ (e : tie.After-extent-at2) where
+  abbrev start : tie.Start
+  start = e .before .before
 
-  s : Made (c .args .probe .s) (c .args .probe .s) 134217728
-  s = held (c .args .probe .s) (c .pre .2 .cell .s-size) tt
+  -- the first node's numbers
+  x : Known (e .before .extent-at .result) (sideIn (start .args .part .now) 0)
+  x = known (e .before .extent-at .result) (sideIn (start .args .part .now) 0) (e .before .extent-at .ensures) (start .pre .1 .x-sized)
 
-  r : Made (c .args .probe .r) (c .args .probe .r) 16777216
-  r = held (c .args .probe .r) (c .pre .2 .cell .reach-sized .r-size) tt
+  y : Known (e .extent-at2 .result) (sideIn (start .args .part .now) 1)
+  y = known (e .extent-at2 .result) (sideIn (start .args .part .now) 1) (e .extent-at2 .ensures) (start .pre .1 .y-sized)
 
--- the six numbers of the first node
-module _ (c : tie.After-wide-at) where
-  abbrev start₁ : tie.Start
-  start₁ = c .before
+  -- the probe's
+  s : Made (start .args .probe .s) (start .args .probe .s) 134217728
+  s = held (start .args .probe .s) (start .pre .2 .cell .s-size) tt
 
-  z0 : Made (c .wide-at .result) (getD (start₁ .args .part .now) 0 (pos 0)) 536870912
-  z0 = called (c .wide-at .ensures) (start₁ .pre .1 .x-sized .centre-size) tt
+  r : Made (start .args .probe .r) (start .args .probe .r) 16777216
+  r = held (start .args .probe .r) (start .pre .2 .cell .reach-sized .r-size) tt
 
-module _ (c : tie.After-wide-at2) where
-  abbrev start₂ : tie.Start
-  start₂ = start₁ (c .before .before .before)
+  -- how far the centres are from each other, and the box with the cell's half side
+  wx : Made (bits (start .args .probe .x) -ℤ bits (e .before .extent-at .result .centre)) (start .args .probe .x -ℤ sideIn (start .args .part .now) 0 .centre) 1073741824
+  wx = minus (held (start .args .probe .x) (start .pre .2 .cell .cx-size) tt) (x .centre) tt
 
-  z1 : Made (c .wide-at2 .result) (getD (start₂ .args .part .now) 1 (pos 0)) 536870912
-  z1 = called (c .wide-at2 .ensures) (start₂ .pre .1 .y-sized .centre-size) tt
+  wy : Made (bits (start .args .probe .y) -ℤ bits (e .extent-at2 .result .centre)) (start .args .probe .y -ℤ sideIn (start .args .part .now) 1 .centre) 1073741824
+  wy = minus (held (start .args .probe .y) (start .pre .2 .cell .cy-size) tt) (y .centre) tt
 
-module _ (c : tie.After-wide-at3) where
-  abbrev start₃ : tie.Start
-  start₃ = start₂ (c .before .before .before)
+  a : Made (bits (e .before .extent-at .result .half) +ℤ bits (start .args .probe .s)) (sideIn (start .args .part .now) 0 .box +ℤ start .args .probe .s) 268435456
+  a = plus (x .half) s tt
 
-  z2 : Made (c .wide-at3 .result) (getD (start₃ .args .part .now) 2 (pos 0)) 536870912
-  z2 = called (c .wide-at3 .ensures) (start₃ .pre .1 .x-sized .axis-size) tt
+  b : Made (bits (e .extent-at2 .result .half) +ℤ bits (start .args .probe .s)) (sideIn (start .args .part .now) 1 .box +ℤ start .args .probe .s) 268435456
+  b = plus (y .half) s tt
 
-module _ (c : tie.After-wide-at4) where
-  abbrev start₄ : tie.Start
-  start₄ = start₃ (c .before)
+extent-at-requires : tie.Need-extent-at-requires
+extent-at-requires c κs = search needs
 
-  z3 : Made (c .wide-at4 .result) (getD (start₄ .args .part .now) 3 (pos 0)) 536870912
-  z3 = called (c .wide-at4 .ensures) (start₄ .pre .1 .y-sized .axis-size) tt
-
-module _ (c : tie.After-wide-at5) where
-  abbrev start₅ : tie.Start
-  start₅ = start₄ (c .before)
-
-  z4 : Made (c .wide-at5 .result) (getD (start₅ .args .part .now) 4 (pos 0)) 134217728
-  z4 = called (c .wide-at5 .ensures) (start₅ .pre .1 .x-sized .box-size) tt
-
-module _ (c : tie.After-wide-at6) where
-  abbrev start₆ : tie.Start
-  start₆ = start₅ (c .before .before .before)
-
-  z5 : Made (c .wide-at6 .result) (getD (start₆ .args .part .now) 5 (pos 0)) 134217728
-  z5 = called (c .wide-at6 .ensures) (start₆ .pre .1 .y-sized .box-size) tt
-
-wide-at-requires : tie.Need-wide-at-requires
-wide-at-requires c κs = search needs
+extent-at-requires-2 : tie.Need-extent-at-requires-2
+extent-at-requires-2 c κs = search needs
 
 sub-wx : tie.Need-sub-wx
-sub-wx c = (minus (x (start₁ (c .before .before))) (z0 (c .before .before)) tt) .fits
-
-wide-at-requires-2 : tie.Need-wide-at-requires-2
-wide-at-requires-2 c κs = search needs
+sub-wx c = wx (c .before .before .before .before) .fits
 
 sub-wy : tie.Need-sub-wy
-sub-wy c = (minus (y (start₂ (c .before .before))) (z1 (c .before .before)) tt) .fits
-
-wide-at-requires-3 : tie.Need-wide-at-requires-3
-wide-at-requires-3 c κs = search needs
-
-wide-at-requires-4 : tie.Need-wide-at-requires-4
-wide-at-requires-4 c κs = search needs
-
-wide-at-requires-5 : tie.Need-wide-at-requires-5
-wide-at-requires-5 c κs = search needs
+sub-wy c = wy (c .before .before .before .before .before .before .before .before) .fits
 
 add-a : tie.Need-add-a
-add-a c = (plus (z4 (c .before .before)) (s (start₅ (c .before .before))) tt) .fits
-
-wide-at-requires-6 : tie.Need-wide-at-requires-6
-wide-at-requires-6 c κs = search needs
+add-a c = a (c .before .before .before .before .before .before .before .before .before .before .before .before) .fits
 
 add-b : tie.Need-add-b
-add-b c = (plus (z5 (c .before .before)) (s (start₆ (c .before .before))) tt) .fits
-
--- the way back from the last read
-module _ (c : tie.After-wide-at6) where
-  abbrev w₅ : tie.After-wide-at5
-  w₅ = c .before .before .before
-
-  abbrev w₂ : tie.After-wide-at2
-  w₂ = w₅ .before .before .before .before .before
+add-b c = b (c .before .before .before .before .before .before .before .before .before .before .before .before .before .before .before .before) .fits
 
 judge-requires : tie.Need-judge-requires
 judge-requires c κs =
-    let w = c .before .before .before in
-    let d = start₆ w in
-    rw (back (minus (x d) (z0 (w₂ w .before .before .before)) tt), back (minus (y d) (z1 (w₂ w)) tt), back (z2 (w₅ w .before .before)), back (z3 (w₅ w .before)), back (plus (z4 (w₅ w)) (s d) tt), back (plus (z5 w) (s d) tt), back (r d))
+    let e = c .before .before .before .before .before .before .before .before .before .before .before .before .before .before .before .before .before .before .before in
+    rw (back (wx e), back (wy e), back (x e .axis), back (y e .axis), back (a e), back (b e), back (r e))
     (record {
-      wx-size = minus (x d) (z0 (w₂ w .before .before .before)) tt .within;
-      wy-size = minus (y d) (z1 (w₂ w)) tt .within;
-      p-size = z2 (w₅ w .before .before) .within;
-      q-size = z3 (w₅ w .before) .within;
-      a-size = plus (z4 (w₅ w)) (s d) tt .within;
-      b-size = plus (z5 w) (s d) tt .within;
-      node-reach = d .pre .2 .cell .reach-sized;
+      wx-size = wx e .within;
+      wy-size = wy e .within;
+      p-size = x e .axis .within;
+      q-size = y e .axis .within;
+      a-size = a e .within;
+      b-size = b e .within;
+      node-reach = start e .pre .2 .cell .reach-sized;
     })
 
 returns : tie.Need-returns
 returns c =
-    let w = c .before .before .before .before in
-    let d = start₆ w in
-    (rw (back (minus (x d) (z0 (w₂ w .before .before .before)) tt), back (minus (y d) (z1 (w₂ w)) tt), back (z2 (w₅ w .before .before)), back (z3 (w₅ w .before)), back (plus (z4 (w₅ w)) (s d) tt), back (plus (z5 w) (s d) tt), back (r d)) at (c .judge .ensures))
+    let e = c .before .before .before .before .before .before .before .before .before .before .before .before .before .before .before .before .before .before .before .before in
+    let d = start e in
+    (rw (back (wx e), back (wy e), back (x e .axis), back (y e .axis), back (a e), back (b e), back (r e)) at (c .judge .ensures))
     ∙ ap code (judge-is (d .args .probe .r) (cellAt (d .args .probe .x) (d .args .probe .y) (d .args .probe .s)) (stripIn (d .args .part .now)))
 
 pub own-spec : {M : Type 1} → statement M
 own-spec =
     tie.close
     (tie.spec
-    wide-at-requires
+    extent-at-requires
+    extent-at-requires-2
     sub-wx
-    wide-at-requires-2
     sub-wy
-    wide-at-requires-3
-    wide-at-requires-4
-    wide-at-requires-5
     add-a
-    wide-at-requires-6
     add-b
     judge-requires
     returns)

@@ -3,7 +3,7 @@ use Prim.Native.Nat.{ℕ}
 use mir.Facts.{toZ-ofZ}
 use Rattle.integers.specs.Signed.{Made, held, lit, widen, plus, times, back}
 use Rattle.integers.specs.Signed.{read64}
-use Rattle.strips.proofs.Records.{got}
+use Rattle.strips.proofs.Results.{got}
 use Rattle.model.specs.Strips as model
 use Rattle.ranges.specs.PowerForm.{c3Most, a1Most}
 use Rattle.strips.specs.Structs.{form}

@@ -12,7 +12,7 @@ use Rattle.integers.specs.Signed.{Made, held, lit, widen, plus, times, back, ca
 use Rattle.model.specs.Strips as model
 use Rattle.ranges.specs.PowerForm.{c3Most, a2Most, secondMost, thirdMost}
 use Rattle.strips.specs.Structs.{form}
-use Rattle.strips.proofs.Records.{got}
+use Rattle.strips.proofs.Results.{got}
 use borrow.Author.Needs.{needs}
 use Rattle.strips.proofs.box_of.Statement.{statement}
 use Rattle.strips.proofs.box_of.Tie as tie

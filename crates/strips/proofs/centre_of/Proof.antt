@@ -2,7 +2,7 @@
 use mir.Facts.{toZ-ofZ}
 use Rattle.integers.specs.Signed.{Made, lit, widen, plus, times, back}
 use Rattle.integers.specs.Signed.{read64}
-use Rattle.strips.proofs.Records.{got}
+use Rattle.strips.proofs.Results.{got}
 use Rattle.model.specs.Strips as model
 use Rattle.ranges.specs.PowerForm.{a0Most, a2Most}
 use Rattle.strips.specs.Structs.{form}

@@ -8,7 +8,7 @@ use Rattle.integers.specs.Signed.{read64}
 use Rattle.model.specs.Strips.{sideAt}
 use Rattle.ranges.specs.PowerForm.{nMost, cube-above, second-in, third-in}
 use Rattle.strips.specs.Structs.{form}
-use Rattle.strips.proofs.Records.{side-eq}
+use Rattle.nodes.specs.Places.{side-eq}
 use borrow.Author.Needs.{needs}
 use Rattle.strips.proofs.extent_of.Statement.{statement}
 use Rattle.strips.proofs.extent_of.Tie as tie

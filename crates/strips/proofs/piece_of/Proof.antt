@@ -11,7 +11,8 @@ use Rattle.model.specs.Trees.{deepest}
 use Rattle.ranges.specs.Sizes.{Sized}
 use Rattle.ranges.specs.PowerForm.{nMost, by-sized}
 use Rattle.subtrees.specs.Subtrees.{PieceAt}
-use Rattle.strips.specs.Structs.{form, stripOf, stripsOf}
+use Rattle.nodes.specs.Structs.{stripOf}
+use Rattle.strips.specs.Structs.{form, stripsOf}
 use Rattle.strips.proofs.piece_of.Statement.{statement}
 use Rattle.strips.proofs.piece_of.Tie as tie
 

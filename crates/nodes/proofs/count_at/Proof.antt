@@ -5,8 +5,8 @@ use lib.IntN.{pos}
 use mir.Syntax.{w32}
 use mir.Val.{SFits}
 use mir.Facts.{toZ-ofZ, fits-natAbs}
-use Rattle.arithmetic.proofs.count_at.Statement.{statement}
-use Rattle.arithmetic.proofs.count_at.Tie as tie
+use Rattle.nodes.proofs.count_at.Statement.{statement}
+use Rattle.nodes.proofs.count_at.Tie as tie
 
 mul-result : tie.Need-mul-result
 mul-result c = search needs

@@ -1,8 +1,8 @@
 -- By the sign. Assumes nothing.
 use mathlib.Core.Path.{_∙_}
 use Rattle.integers.specs.Absolute.{absℤ}
-use Rattle.arithmetic.proofs.abs.Statement.{statement}
-use Rattle.arithmetic.proofs.abs.Tie as tie
+use Rattle.rounding.proofs.abs.Statement.{statement}
+use Rattle.rounding.proofs.abs.Tie as tie
 use Rattle.integers.specs.Signed.{Made, arg, lit, minus, back, test-lt, neg-abs, pos-abs}
 
 x : (c : tie.Start) → Made (c .args .x) (c .args .x) 4000000000000000000

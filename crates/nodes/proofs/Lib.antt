@@ -1,2 +1,2 @@
 -- Laws that belong to no one function.
-pub mod Stores
+pub mod Narrowed

@@ -9,8 +9,8 @@ use lib.IntN.{ℤ, pos, natAbs, _+ℤ_, _*ℤ_}
 use lib.Signed.{quotZ, remZ}
 use mir.Syntax.{w64}
 use mir.Val.{toZ, ofZ}
-use Rattle.arithmetic.proofs.rounded.Statement.{statement}
-use Rattle.arithmetic.proofs.rounded.Tie as tie
+use Rattle.rounding.proofs.rounded.Statement.{statement}
+use Rattle.rounding.proofs.rounded.Tie as tie
 use Rattle.integers.specs.Rounding.{nearest}
 use Rattle.integers.specs.Signed.{Made, arg, arg-pos, lit, plus, minus, times, over, rest, above-zero, back, test-eq, test-ne}
 use Rattle.integers.specs.Whole as whole
