@@ -1,7 +1,7 @@
 // What the programs that run stored cases share: a case is an argument, the name of a file that holds a sheet.
+use answering::Input;
 use libc::STDOUT_FILENO;
 use model::Read;
-use showing::Input;
 ghost use mathlib.Core.Path.{_≡_};
 ghost use Prim.Native.Nat.{min};
 ghost use Rattle.io.specs.Counts.{Counts};
@@ -32,7 +32,7 @@ pub fn read_case(i: usize, sheet: &mut [u8]) -> Input
     ensures count { λ r. ⌜ Counts (r .count) (now (sheet .exit)) ⌝ }
 {
     let fd = open_case(i);
-    let input = showing::read_input(fd, sheet);
+    let input = answering::read_input(fd, sheet);
     libc::close(fd);
     input
 }
@@ -42,5 +42,5 @@ pub fn show_refused(got: Read, sheet: &[u8])
     requires answer { ⌜ got ≡ read (now sheet) ⌝ }
 {
     let refusal = got.refusal;
-    showing::show_refusal(refusal);
+    answering::show_refusal(refusal);
 }

@@ -1,2 +1,2 @@
 -- What the comparisons answer.
-pub mod Answers
+pub mod Comparisons

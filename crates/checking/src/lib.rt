@@ -20,7 +20,7 @@ ghost use Rattle.subtrees.specs.Preorder.{Begins};
 ghost use Rattle.subtrees.specs.Subtrees.{subtree, Walkable};
 ghost use Rattle.nodes.specs.Structs.{side, stripOf};
 ghost use Rattle.strips.specs.Structs.{stripsOf, ShapeSized};
-ghost use Rattle.checking.specs.Answers.{Unless, Told};
+ghost use Rattle.checking.specs.Comparisons.{Unless, Told};
 
 // is number i of s other than v
 fn differs(s: &[i32], i: usize, v: i64) -> bool

@@ -1,12 +1,10 @@
 -- From a byte of a map of which demand 3 holds to what it says of its cell. Assumes nothing.
 use mathlib.Core.Path.{_≡_, refl, sym, ap, _∙_}
 use mathlib.Core.Bool.{cond}
-use mathlib.Core.List.{List}
 use Prim.Native.Nat.{ℕ}
 use lib.Dec.{eqb}
-use Rattle.model.specs.declared.Job.{Job}
 use Rattle.model.specs.Plates.{Verdict, clear, within, doubtful, mixed, letter}
-use Rattle.model.specs.Promises.{MapHolds, ClearByte, InsideByte, DoubtfulByte, NoOtherByte}
+use Rattle.model.specs.Promises.{ClearByte, InsideByte, DoubtfulByte, NoOtherByte}
 
 -- ---- a letter has one verdict
 spoken : ℕ → Verdict

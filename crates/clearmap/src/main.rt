@@ -3,5 +3,5 @@
 use libc::STDIN_FILENO;
 
 fn main() {
-    showing::answer(STDIN_FILENO);
+    answering::answer(STDIN_FILENO);
 }

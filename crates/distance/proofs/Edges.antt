@@ -19,7 +19,7 @@ use Rattle.subtrees.specs.Fronts.{TreesOf}
 use Rattle.boxes.specs.declared.Bounds.{Bounds}
 use Rattle.distance.specs.declared.Found.{Found}
 use Rattle.distance.specs.Least.{least-append, attained, leaf-there, leaves-there, some-below}
-use Rattle.distance.specs.Answers.{BoundsOf, FoundIn}
+use Rattle.distance.specs.Lookups.{BoundsOf, FoundIn}
 
 -- ---- the first tree, and the others
 pub record First (l : List ℤ) (k : ℕ) : Type 0 where

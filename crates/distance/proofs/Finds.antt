@@ -14,7 +14,7 @@ use Rattle.subtrees.specs.Preorder.{size-pos}
 use Rattle.subtrees.specs.Halves.{Halves, halves, parts}
 use Rattle.boxes.specs.declared.Bounds.{Bounds}
 use Rattle.distance.specs.Least.{least-append, leaf-there}
-use Rattle.distance.specs.Answers.{BoundsOf}
+use Rattle.distance.specs.Lookups.{BoundsOf}
 
 module _ (c : Cell) (r : Bounds) where
   pub at-leaf : (l : List ℤ) → natAbs (getD l countPlace (pos 0)) ≡ 1 → r .lo ≡ closest² c (stripIn l) → r .hi ≡ farthest² c (stripIn l) → (t : Tree) → l ≡ flatten t → BoundsOf c (leaves t) r

@@ -1,3 +1,3 @@
 -- The least value over leaves, and what the lookup of a point answers.
 pub mod Least
-pub mod Answers
+pub mod Lookups

@@ -17,7 +17,7 @@ ghost use Rattle.subtrees.specs.Preorder.{BeginsAll};
 ghost use Rattle.subtrees.specs.Halves.{TreeOf};
 ghost use Rattle.boxes.specs.Ranges.{pointAt};
 ghost use Rattle.subtrees.specs.Fronts.{TreesOf};
-ghost use Rattle.distance.specs.Answers.{BoundsOf, FoundIn};
+ghost use Rattle.distance.specs.Lookups.{BoundsOf, FoundIn};
 
 // The bounds over some edges, with one of them that attains hi.
 pub struct Found {

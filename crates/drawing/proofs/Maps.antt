@@ -4,17 +4,15 @@ use mathlib.Core.List.{List, _++_}
 use Prim.Native.Nat.{ℕ, _+_, _-_, _*_, _/_, _%_, _^_, _≤_, _<_, zero-le}
 use native.Mathlib.Nat.{le-trans, mul-comm, mul-assoc, mul-le-mul-right, div-add-mod', mod-lt, le-div-iff-mul-le}
 use native.Mathlib.Omega.{arith}
-use lib.Dec.{T}
 use lib.Pow.{pow-mono, pow-pos}
-use lib.IntN.{ℤ, pos, negsuc, natAbs, _+ℤ_, _-ℤ_, _*ℤ_}
-use lib.Signed.{mag, nonNeg}
+use lib.IntN.{ℤ, pos, negsuc, natAbs, _+ℤ_, _*ℤ_}
+use lib.Signed.{mag}
 use mir.Syntax.{w32, w64}
 use mir.Val.{toZ, ofZ}
 use lib.ListN.{length, getD, take, drop, length-drop, take-append-drop}
 use lib.Seq.{getD-drop, ext-getD}
-use Rattle.integers.specs.RingSolver.{name₂, name₄, reify, close, ok}
+use Rattle.integers.specs.RingSolver.{name₄, reify, close, ok}
 use Rattle.integers.specs.Order.{_≼_, ≼-pos, num, _⊠_}
-use Rattle.integers.specs.Omega.{zarith}
 use Rattle.integers.specs.Inequalities.{≼-trans}
 use Rattle.integers.specs.Signed.{natAbs-add, natAbs-mul, read32, read64}
 use Rattle.sequences.specs.RowMajor.{rowMajor, length-rowMajor, is-rowMajor}

@@ -11,7 +11,7 @@ use Rattle.model.specs.Plates.{doubtful, letter, settled}
 use Rattle.inheritance.specs.Parts.{PartOf}
 use Rattle.inheritance.specs.Edges.{EachInherits, opened, leave-out, part-settled}
 use Rattle.inheritance.specs.Blocks.{block, block-part}
-use Rattle.search.proofs.Wide.{nonneg}
+use Rattle.integers.specs.Signed.{nonneg}
 use Rattle.filling.specs.Squares.{In}
 use Rattle.drawing.specs.declared.Frame.{Frame}
 use Rattle.drawing.specs.Letters.{wayOf, asked, ownLetter}

@@ -28,7 +28,7 @@ use Rattle.clearance.specs.Demands as demands
 use Rattle.flat_jobs.specs.FlatJobs.{placesLong, jobFrom, numbersOf}
 use Rattle.flat_jobs.specs.Rows.{from-whole, row-kept}
 use Rattle.exports.specs.Rows.{readLeaves, bytesLeft, Answered}
-use Rattle.exports.specs.Promises.{ReadNumbers, RowRead, sheetLeft, SheetBack, RowBack, DrawnFrom, ReadMapPoint}
+use Rattle.exports.specs.Promises.{ReadNumbers, RowRead, sheetLeft, SheetBack, RowBack, ReadMapPoint}
 
 -- ---- reading
 own-four : (a b c : Bool) → first ((edges, a) ∷ (range, b) ∷ (cell, c) ∷ []) ≤ 4

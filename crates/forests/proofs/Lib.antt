@@ -1,4 +1,4 @@
 -- Laws that belong to no one function.
-pub mod Steps
+pub mod NextEdge
 pub mod Whole
 pub mod Checks

@@ -21,7 +21,7 @@ ghost use Rattle.ranges.specs.Jobs.{Limits, GrainSized};
 ghost use Rattle.subtrees.specs.Preorder.{Begins, BeginsAll};
 ghost use Rattle.subtrees.specs.Counts.{count};
 ghost use Rattle.strips.specs.Structs.{form, stripsOf, ShapeSized};
-ghost use Rattle.checking.specs.Answers.{Told as Found};
+ghost use Rattle.checking.specs.Comparisons.{Told as Found};
 ghost use Rattle.forests.specs.Ready.{Ready};
 ghost use Rattle.forests.specs.Walk.{treesFrom, Ahead, Whole, Says};
 ghost use Rattle.forests.specs.Told.{Told};

@@ -11,7 +11,7 @@ use Rattle.model.specs.Trees.{Tree}
 use Rattle.model.specs.Plates.{Verdict, doubtful, settled}
 use Rattle.model.specs.Explore.{Cell, Answer, inside, away, maybe, join, explore, exploreAll}
 use Rattle.enclosure.specs.Covers.{CoversAll, at-end, at-cons}
-use Rattle.verdicts.specs.Answers.{clash, join-inside, join-away}
+use Rattle.verdicts.specs.AnswerCases.{clash, join-inside, join-away}
 use Rattle.inheritance.specs.Parts.{PartOf, whole, quarterOf, quarter-part}
 use Rattle.inheritance.specs.Trees.{Judges, tree-inside-part, tree-away-part, left-inside, right-inside, both-away}
 

@@ -10,9 +10,9 @@ use Rattle.integers.specs.Inequalities.{from, weak, _⊠⁺_, ≼-*l-off}
 use Rattle.integers.specs.Within.{Within, bound-nonneg}
 use Rattle.model.specs.Fractions.{Point}
 use Rattle.model.specs.Strips.{Strip}
-use Rattle.model.specs.Explore.{Cell, inside, away, maybe, isInside, isAway₁, isAway₂, byTests, judged}
+use Rattle.model.specs.Explore.{Cell, inside, away, isInside, isAway₁, isAway₂, byTests, judged}
 use Rattle.enclosure.specs.Covers.{In}
-use Rattle.verdicts.specs.Answers.{clash, tests-inside, tests-away}
+use Rattle.verdicts.specs.AnswerCases.{clash, tests-inside, tests-away}
 use Rattle.verdicts.specs.Apart.{InCell}
 use Rattle.verdicts.specs.Tests.{AllCloser, AllFarther, AllAtLeast, AllAtMost, reach-sound, away-means}
 use Rattle.verdicts.specs.Trees.{Sound}

@@ -9,7 +9,7 @@ use Rattle.model.specs.Exact.{Points}
 use Rattle.model.specs.Trees.{Tree}
 use Rattle.model.specs.Explore.{Cell, Answer, inside, away, maybe, join, settle, explore}
 use Rattle.enclosure.specs.Covers.{In, Covers, at-leaf, at-long, at-node}
-use Rattle.verdicts.specs.Answers.{settle-inside, settle-away, join-inside, join-away}
+use Rattle.verdicts.specs.AnswerCases.{settle-inside, settle-away, join-inside, join-away}
 use Rattle.verdicts.specs.Trees.{Sound, some, tree-inside, tree-away}
 use Rattle.inheritance.specs.Parts.{PartOf}
 

@@ -14,6 +14,7 @@ use lib.Signed.{mag, ltZ, nonNeg, pos-natAbs, quotZ, remZ, shrZ}
 use mir.Syntax.{w32, w64}
 use mir.Val.{SFits, toZ, ofZ}
 use mir.Facts.{toZ-ofZ}
+use Rattle.integers.specs.Order.{_≼_, num}
 
 pub mag-le : (z : ℤ) → mag z ≤ natAbs z
 mag-le (pos n) = le-refl n
@@ -188,3 +189,8 @@ same32 y z h k e = sym (read32 y h) ∙ ap (toZ w32) e ∙ read32 z k
 
 pub same64 : (y z : ℤ) → mag y < 2 ^ 63 → mag z < 2 ^ 63 → ofZ w64 y ≡ ofZ w64 z → y ≡ z
 same64 y z h k e = sym (read64 y h) ∙ ap (toZ w64) e ∙ read64 z k
+
+-- a number whose sign says that it is not below 0
+pub nonneg : (z : ℤ) → T (nonNeg z) → pos 0 ≼ z
+nonneg (pos n) t = num n
+nonneg (negsuc n) t = absurd t

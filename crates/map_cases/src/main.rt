@@ -2,7 +2,7 @@
 
 fn show_case(i: usize) {
     let fd = case_files::open_case(i);
-    showing::answer(fd);
+    answering::answer(fd);
     libc::close(fd);
 }
 

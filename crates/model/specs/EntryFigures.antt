@@ -1,7 +1,6 @@
 -- Figures of the entries: of any two refusals that apply the lower is given, memory lent is long enough or one place too short, what it
 -- holds afterwards, and what the program lends. Everything is computed. Assumes nothing.
 use mathlib.Core.Path.{_≡_, refl}
-use mathlib.Core.Bool.{Bool, true, false}
 use mathlib.Core.List.{List, [], _∷_, _++_}
 use mathlib.Core.Logic.{inl}
 use Prim.Native.Nat.{ℕ}

@@ -3,7 +3,7 @@
 use mathlib.Core.Path.{_≡_, refl, subst}
 use mathlib.Core.Bool.{Bool, true, false}
 use mathlib.Core.Logic.{_⊎_, inl, inr}
-use mathlib.Core.List.{List, [], _∷_, _++_}
+use mathlib.Core.List.{List, [], _∷_}
 use Prim.Native.Nat.{ℕ, zero, suc}
 use Prim.Native.String.{String}
 use lib.Dec.{T}
@@ -15,11 +15,11 @@ use Rattle.basics.specs.Numbers.{absℤ}
 use Rattle.model.specs.declared.Job.{Job}
 use Rattle.model.specs.Jobs.{edgesFrom, outline}
 use Rattle.model.specs.Bytes.{bytes}
-use Rattle.model.specs.Strips.{Side, Strip, sideAt, strip}
+use Rattle.model.specs.Strips.{Strip, sideAt, strip}
 use Rattle.model.specs.Trees.{Tree, leaf, long, node, pieces, tree}
 use Rattle.model.specs.Store.{forest}
 use Rattle.model.specs.Roots.{rootBy, root}
-use Rattle.model.specs.Explore.{Cell, Answer, inside, away, maybe, isInside, isAway₁, isAway₂, judged, join, settle, explore, exploreAll}
+use Rattle.model.specs.Explore.{Cell, Answer, inside, away, maybe, isInside, isAway₁, isAway₂, judged, join, explore, exploreAll}
 use Rattle.model.specs.Plates.{Verdict, clear, within, doubtful, mixed, letter, drawn, mapped, mapOf}
 use Rattle.model.specs.Distance.{leaves, leavesAll, leavesAt, least, lo, hi, Attains}
 use Rattle.model.specs.FigureTables.{AllHold, _and_, side, stripOf, job}

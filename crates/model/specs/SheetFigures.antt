@@ -10,7 +10,7 @@ use Rattle.model.specs.declared.Job.{Job}
 use Rattle.model.specs.declared.Read.{Read}
 use Rattle.model.specs.Jobs.{between, coordinate, isZero, placed, counted, ranged, celled, judge}
 use Rattle.model.specs.Refusals.{accepted}
-use Rattle.model.specs.Bytes.{Got, got, none, bytes, digit}
+use Rattle.model.specs.Bytes.{got, none, bytes, digit}
 use Rattle.model.specs.Numbers.{decimal, text, moreDigits, natural, number}
 use Rattle.model.specs.Forms.{writeForm, byte, readForm}
 use Rattle.model.specs.Layouts.{Section, section, Line, Lines, plain, writeLine, writeLines, writeAll, readLine, readLines, readAll}

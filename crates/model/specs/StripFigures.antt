@@ -1,13 +1,13 @@
 -- Figures on either side of each number and each comparison of strips, trees, the store and the root. Everything is computed. Assumes nothing.
 use mathlib.Core.Path.{_≡_, refl}
 use mathlib.Core.Bool.{Bool, true, false}
-use mathlib.Core.List.{List, [], _∷_, _++_}
+use mathlib.Core.List.{List, [], _∷_}
 use Prim.Native.Nat.{ℕ}
 use lib.IntN.{ℤ, pos, negsuc}
 use Rattle.basics.specs.Numbers.{absℤ}
 use Rattle.model.specs.declared.Job.{Job}
-use Rattle.model.specs.Jobs.{Cubic, Edge, edgesFrom, outline}
-use Rattle.model.specs.Strips.{Side, Strip, sideAt, strip, denominator, middle, short}
+use Rattle.model.specs.Jobs.{Edge, edgesFrom, outline}
+use Rattle.model.specs.Strips.{Side, Strip, sideAt, strip, short}
 use Rattle.model.specs.Trees.{Tree, leaf, long, node, pieces, tree, anyLong}
 use Rattle.model.specs.Sheets.{same}
 use Rattle.model.specs.Store.{flatten, forest, nodesOf, storeOf, begins}

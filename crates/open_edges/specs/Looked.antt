@@ -11,7 +11,7 @@ use lib.Seq.{take-suc-set, take-all}
 use Rattle.model.specs.Strips.{Strip}
 use Rattle.model.specs.Trees.{Tree}
 use Rattle.model.specs.Explore.{Answer, inside, away, maybe, join, explore, exploreAll}
-use Rattle.verdicts.specs.Answers.{clash, join-inside}
+use Rattle.verdicts.specs.AnswerCases.{clash, join-inside}
 use Rattle.strip_tests.specs.PlainTests.{code}
 use Rattle.inheritance.specs.Edges.{keep, opened}
 use Rattle.inheritance.specs.Trees.{left-inside, right-inside}

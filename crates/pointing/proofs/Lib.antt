@@ -1,3 +1,3 @@
 -- Laws that belong to no one function.
 pub mod Asking
-pub mod Answers
+pub mod Found

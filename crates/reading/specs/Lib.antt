@@ -1,2 +1,2 @@
 -- What the readers' answers say of the sheet.
-pub mod Answers
+pub mod Progress

@@ -15,7 +15,7 @@ ghost use Rattle.model.specs.Forms.{readForm};
 ghost use Rattle.model.specs.Sheets.{endForm, longest};
 ghost use Rattle.model.specs.Entries as entries;
 ghost use Rattle.sheet_text.specs.Forms.{marks};
-ghost use Rattle.reading.specs.Answers.{closed, keep, OptionalRead, EdgesRead, HeadSays, jobBy, headBy, refusedBy, answerOf};
+ghost use Rattle.reading.specs.Progress.{closed, keep, OptionalRead, EdgesRead, HeadSays, jobBy, headBy, refusedBy, answerOf};
 
 // The number of a line that may be left out, and where the next line starts.
 pub struct Optional {

@@ -18,7 +18,7 @@ use Rattle.model.specs.Numbers.{number}
 use Rattle.model.specs.Forms.{byte, readForm}
 use Rattle.sheet_text.specs.Tests.{no}
 use Rattle.sheet_text.specs.Forms.{numberThen, byteThen, marks, byte-same, byte-other}
-use Rattle.scanning.specs.Answers.{byteOf}
+use Rattle.scanning.specs.Scanned.{byteOf}
 use Rattle.scanning.proofs.Numbers.{drop-next, byte-some}
 
 -- ---- a step of the definition

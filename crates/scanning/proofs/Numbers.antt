@@ -18,7 +18,7 @@ use Rattle.model.specs.Bytes.{Got, got, none, digit}
 use Rattle.model.specs.Numbers.{moreDigits, natural, number}
 use Rattle.sheet_text.specs.Tests.{yes, no}
 use Rattle.sheet_text.specs.Numbers.{plus, minus, digit-is, is-digit, natural-was, seven-digits}
-use Rattle.scanning.specs.Answers.{byteOf, digitOf}
+use Rattle.scanning.specs.Scanned.{byteOf, digitOf}
 
 -- what stands at i, and what stands after it
 pub byte-in : (s : List ℕ) (i : ℕ) → i < length s → getD s i 0 ≡ byteOf (drop i s)

@@ -1,2 +1,2 @@
 -- What the readers' answers say.
-pub mod Answers
+pub mod Scanned

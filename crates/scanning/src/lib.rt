@@ -7,7 +7,7 @@ ghost use lib.ListN.{length, drop};
 ghost use Rattle.model.specs.Numbers.{natural, number};
 ghost use Rattle.model.specs.Forms.{readForm};
 ghost use Rattle.sheet_text.specs.Forms.{marks};
-ghost use Rattle.scanning.specs.Answers.{byteOf, digitOf, noNatural, naturalGot, noNumber, numberGot, noLine, lineGot};
+ghost use Rattle.scanning.specs.Scanned.{byteOf, digitOf, noNatural, naturalGot, noNumber, numberGot, noLine, lineGot};
 
 pub struct Natural {
     pub found: bool,

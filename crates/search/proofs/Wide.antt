@@ -4,23 +4,19 @@ use mathlib.Core.Bool.{Bool, true, false}
 use Prim.Native.Nat.{_≤_}
 use native.Mathlib.Omega.{arith}
 use lib.Dec.{T}
-use lib.IntN.{ℤ, pos, negsuc, _+ℤ_, _-ℤ_, _*ℤ_}
+use lib.IntN.{ℤ, pos, _+ℤ_, _-ℤ_, _*ℤ_}
 use lib.Signed.{leZ, ltZ-yes, leZ-yes, nonNeg, clashℤ}
 use Rattle.integers.specs.RingSolver.{name₄, reify}
-use Rattle.integers.specs.Order.{_≼_, num, _⊞_, _⊠_}
+use Rattle.integers.specs.Order.{_≼_, _⊞_, _⊠_}
 use Rattle.integers.specs.Omega.{zarith}
 use Rattle.integers.specs.Inequalities.{from, _&_}
 use Rattle.integers.specs.Absolute.{absℤ, abs-nonneg}
+use Rattle.integers.specs.Signed.{nonneg}
 use Rattle.model.specs.Strips.{Side}
 use Rattle.model.specs.Explore.{Answer, inside, away, maybe, farthest, isInside, byTests, judged}
 use Rattle.strip_tests.specs.PlainTests.{code}
 use Rattle.ranges.specs.Sizes.{SideSized}
 use Rattle.search.specs.Probes.{cellAt, Enough}
-
--- a number whose sign says that it is not below 0
-pub nonneg : (z : ℤ) → T (nonNeg z) → pos 0 ≼ z
-nonneg (pos n) t = num n
-nonneg (negsuc n) t = absurd t
 
 -- the farthest is at least the half side
 far : (w p b s : ℤ) → pos 0 ≼ w → pos 0 ≼ p → pos 0 ≼ b → pos 0 ≼ s → s *ℤ s ≼ (w +ℤ p +ℤ (b +ℤ s)) *ℤ (w +ℤ p +ℤ (b +ℤ s))

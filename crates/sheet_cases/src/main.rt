@@ -17,7 +17,7 @@ fn show_written(job: Job) {
     let done = clearance::write(job, &mut out);
     let refusal = done.refusal;
     if refusal > 0 {
-        showing::show_refusal(refusal);
+        answering::show_refusal(refusal);
         return;
     }
     let n = done.bytes;

@@ -8,12 +8,11 @@ use native.Mathlib.Omega.{arith}
 use lib.Dec.{eqb}
 use lib.IntN.{ℤ, pos, negsuc}
 use lib.ListN.{getD, set, drop}
-use borrow.Author.Tests.{eqb-true, eqb-false, eq-eqb, ne-eqb}
+use borrow.Author.Tests.{eqb-true, eq-eqb, ne-eqb}
 use Rattle.model.specs.Numbers.{decimal, text}
 use Rattle.model.specs.Forms.{writeForm}
 use Rattle.model.specs.Layouts.{Section, section, Lines, writeLine, writeLines, writeAll}
 use Rattle.integers.specs.Tests.{both}
-use Rattle.sheet_text.specs.Tests.{no-way}
 use Rattle.sheet_text.specs.Numbers.{cases-ten, decimal-one, decimal-more}
 use Rattle.sheet_text.specs.Forms.{put}
 

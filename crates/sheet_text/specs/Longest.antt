@@ -1,14 +1,12 @@
 -- The longest sheet of a job that is not refused has 5,645 bytes, so that as many are always enough. Assumes nothing.
 use mathlib.Core.Path.{_≡_, refl}
-use mathlib.Core.Bool.{true}
 use mathlib.Core.List.{[], _∷_}
 use Prim.Native.Nat.{ℕ, suc, _+_, _*_, _^_, _≤_, _<_}
 use native.Mathlib.Omega.{arith}
-use borrow.Author.Tests.{leb-true, leb-false}
+use borrow.Author.Tests.{leb-false}
 use lib.Dec.{leb, lit<}
 use lib.IntN.{ℤ, pos, negsuc}
 use lib.ListN.{length, replicate, length-append}
-use Rattle.integers.specs.Tests.{both}
 use Rattle.model.specs.declared.Job.{Job}
 use Rattle.model.specs.Refusals.{space}
 use Rattle.model.specs.Jobs.{between, coordinate, isZero, placed, counted, ranged, celled, own, judge}
@@ -20,7 +18,6 @@ use Rattle.model.specs.Entries.{writeRefusal}
 use Rattle.model.specs.Promises.{SheetRoom, SheetFills}
 use Rattle.ranges.specs.Refusals.{tells}
 use Rattle.ranges.specs.Legal.{Between, natural, legal}
-use Rattle.sheet_text.specs.Tests.{no-way}
 use Rattle.sheet_text.specs.Numbers.{text-short, text-long}
 use Rattle.sheet_text.specs.Optional.{stated-within}
 use Rattle.sheet_text.specs.Code.{headOf, headText, codeText, sheet-as-code, edges-long, end-long}

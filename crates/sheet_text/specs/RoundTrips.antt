@@ -16,7 +16,7 @@ use Rattle.model.specs.declared.Read.{Read}
 use Rattle.model.specs.Bytes.{Got, got, bytes, digit}
 use Rattle.model.specs.Numbers.{text, decimal, number}
 use Rattle.model.specs.Forms.{writeForm}
-use Rattle.model.specs.Layouts.{section, Lines, plain, writeLine, writeLines, writeAll}
+use Rattle.model.specs.Layouts.{section, Lines, plain, writeLines, writeAll}
 use Rattle.model.specs.Refusals.{check, space, accepted}
 use Rattle.model.specs.Jobs.{own, judge, zeroJob}
 use Rattle.model.specs.Sheets.{jobForm, plateForm, cellForm, reachForm, grainForm, edgeForm, endForm, longest, tailLayout, layout, jobAt, plateAt, cellAt, reachAt, grainAt, edgesAt, endAt, defaultGrain, stated, edgeLines, linesOf, sheetOf, joined, fit, numberAt, jobOf, Sheet, lines, broken, readSheet}

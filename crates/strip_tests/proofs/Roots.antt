@@ -11,7 +11,7 @@ use lib.IntN.{ℤ, pos, negsuc, natAbs, _-ℤ_, _*ℤ_}
 use lib.Signed.{ltZ, leZ, quotZ}
 use Rattle.integers.specs.Tests.{alike}
 use Rattle.strip_tests.specs.PlainTests.{capBy}
-use Rattle.verdicts.specs.Answers.{clash}
+use Rattle.verdicts.specs.AnswerCases.{clash}
 use Rattle.model.specs.Roots.{root}
 use Rattle.verdicts.specs.Roots.{root-reaches, root-least}
 

@@ -1,19 +1,19 @@
 -- How many nodes a tree and a job's trees can have: 2,047 an edge at most, so that 917,056 numbers are a store for every job. Assumes nothing.
-use mathlib.Core.Path.{_≡_, refl, ap, subst}
+use mathlib.Core.Path.{_≡_, refl, ap}
 use mathlib.Core.Bool.{false, not}
 use mathlib.Core.List.{List, [], _++_}
 use Prim.Native.Nat.{ℕ, zero, suc, _+_, _*_, _≤_, _<_}
 use native.Mathlib.Omega.{arith}
 use borrow.Author.Tests.{leb-false}
 use lib.Dec.{leb}
-use lib.IntN.{ℤ, pos, _*ℤ_}
+use lib.IntN.{ℤ}
 use lib.ListN.{length}
 use Rattle.model.specs.declared.Job.{Job}
 use Rattle.model.specs.Refusals as refused
 use Rattle.model.specs.Refusals.{Checks, check}
 use Rattle.model.specs.Jobs.{own, judge, Edge, edgeAt, edgesFrom, outline}
 use Rattle.model.specs.Strips.{strip}
-use Rattle.model.specs.Trees.{Tree, tree, trees, anyLong}
+use Rattle.model.specs.Trees.{tree, trees, anyLong}
 use Rattle.model.specs.Store.{width, size, sizes, forest, nodesOf, storeOf, begins}
 use Rattle.model.specs.Plates.{cellsOf}
 use Rattle.model.specs.Entries.{mapRefusal, spotCheck, pointRefusal}
@@ -50,10 +50,6 @@ forest-is j = refl
 pub forest-many : (j : Job) → length (forest j) ≡ j .count
 unfolding forest outline
 forest-many j = many-trees (j .grain) (j .places) (j .count) 0
-
-pub forest-some : (j : Job) → Legal j → 1 ≤ nodesOf j
-unfolding forest outline
-forest-some j h = some-node (j .grain) (j .places) (j .count) 0 (h .some)
 
 pub forest-few : (j : Job) → Legal j → nodesOf j ≤ 131008
 unfolding forest outline

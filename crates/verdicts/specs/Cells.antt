@@ -8,7 +8,7 @@ use Rattle.model.specs.Exact.{Points}
 use Rattle.model.specs.Trees.{Tree}
 use Rattle.model.specs.Explore.{Cell, inside, away, maybe, judged, exploreAll}
 use Rattle.enclosure.specs.Covers.{CoversAll}
-use Rattle.verdicts.specs.Answers.{maybe≢inside, maybe≢away}
+use Rattle.verdicts.specs.AnswerCases.{maybe≢inside, maybe≢away}
 use Rattle.verdicts.specs.Tests.{AllCloser, AllFarther, AllAtLeast, AllAtMost, reach-sound}
 use Rattle.verdicts.specs.Trees.{Sound, AllShorts, all-inside, all-away, all-lower, all-upper}
 

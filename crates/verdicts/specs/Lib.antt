@@ -1,6 +1,6 @@
 -- What the answers of an exploration mean. By role:
 -- one strip and one cell: answers by cases, distances, the tests' meanings
-pub mod Answers
+pub mod AnswerCases
 pub mod Apart
 pub mod Distances
 pub mod Roots

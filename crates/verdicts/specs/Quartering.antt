@@ -19,7 +19,7 @@ use Rattle.model.specs.Explore.{Cell, Answer, inside, away, maybe, exploreAll}
 use Rattle.model.specs.Plates.{Verdict, doubtful, square, halfCorner, halfIndex, settled, drawn}
 use Rattle.model.specs.Exact.{Along, CellPoint}
 use Rattle.integers.specs.Within.{Within}
-use Rattle.verdicts.specs.Answers.{clash}
+use Rattle.verdicts.specs.AnswerCases.{clash}
 use Rattle.verdicts.specs.Apart.{InCell}
 
 -- ---- a square of 2^n columns holds column i, i < 2^n

@@ -16,7 +16,7 @@ use Rattle.model.specs.Explore.{Cell, farthest, atLeast0, room, closest, farthe
 use Rattle.integers.specs.Within.{Within}
 use Rattle.enclosure.specs.Covers.{In}
 use Rattle.integers.specs.Tests.{lt-true, lt-false, le-true, or-true, or-false, both}
-use Rattle.verdicts.specs.Answers.{tests-inside, tests-away, tests-maybe}
+use Rattle.verdicts.specs.AnswerCases.{tests-inside, tests-away, tests-maybe}
 use Rattle.verdicts.specs.Apart.{InCell, apartX, apartY, apartD, apart-up, apart-is, spreadX, spreadY}
 use Rattle.verdicts.specs.Distances.{reach-bound, gap-bound, most-squared, least-squared, below, above, across-far, band-upper, band-lower, grown-reach, grown-gap}
 use Rattle.verdicts.specs.Roots.{root-reaches}

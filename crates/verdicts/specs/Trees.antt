@@ -9,7 +9,7 @@ use Rattle.model.specs.Strips.{Strip, short}
 use Rattle.model.specs.Exact.{Points}
 use Rattle.model.specs.Trees.{Tree, leaf, long, node}
 use Rattle.model.specs.Explore.{Answer, inside, away, maybe, join, explore, exploreAll}
-use Rattle.verdicts.specs.Answers.{clash, settle-inside, settle-away, settle-not-inside, settle-not-away, join-inside, join-away, join-not-inside, join-not-away}
+use Rattle.verdicts.specs.AnswerCases.{clash, settle-inside, settle-away, settle-not-inside, settle-not-away, join-inside, join-away, join-not-inside, join-not-away}
 use Rattle.enclosure.specs.Covers.{In, Covers, at-leaf, at-long, at-node, CoversAll, at-end, at-cons}
 
 -- what a strip's answer says of the points in it. `lower` and `upper` are the two halves of the band

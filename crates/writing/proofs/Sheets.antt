@@ -24,8 +24,8 @@ use Rattle.ranges.specs.Legal.{legal}
 use Rattle.sheet_text.specs.Jobs.{head-small, edges-small}
 use Rattle.sheet_text.specs.Code.{headOf, headText, edgesText, codeText, sheet-as-code}
 use Rattle.sheet_text.specs.Longest.{room, head-most, grain-most}
-use Rattle.printing.specs.Puts.{Put}
-use Rattle.printing.proofs.Numbers.{put-then, small-fits, small-again}
+use Rattle.formatting.specs.Puts.{Put}
+use Rattle.formatting.specs.Texts.{put-then, small-fits, small-again}
 
 -- ---- put_sheet, of a legal job
 module _ (j : Job) (ok : judge j ≡ 0) where

@@ -13,7 +13,7 @@ use Rattle.subtrees.specs.Preorder.{size-pos, tail, Begins}
 use Rattle.subtrees.specs.Subtrees.{subtree, left-half, right-half, place-most, at-short, few, Forked, forked}
 use Rattle.nodes.specs.Structs.{stripOf}
 use Rattle.strips.specs.Structs.{stripsOf}
-use Rattle.checking.specs.Answers.{Unless, Told, unless-true, unless-false, refused, granted}
+use Rattle.checking.specs.Comparisons.{Unless, Told, unless-true, unless-false, refused, granted}
 use Rattle.checking.proofs.Found.{no-strip, no-count, yes-leaf, no-left, no-right, yes-node}
 use Prim.Native.Nat.{ℕ, _<_}
 use borrow.Fn.Kinds.{In}

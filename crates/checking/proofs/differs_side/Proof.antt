@@ -11,7 +11,7 @@ use Rattle.integers.specs.Signed.{held, back}
 use Rattle.model.specs.Strips.{Side}
 use Rattle.nodes.specs.Places.{centrePlace, axisPlace, boxPlace, sideIn, side-eq}
 use Rattle.nodes.specs.Structs.{side}
-use Rattle.checking.specs.Answers.{Unless, unless-true, unless-false, unless-last}
+use Rattle.checking.specs.Comparisons.{Unless, unless-true, unless-false, unless-last}
 use borrow.Author.Needs.{needs}
 use Rattle.checking.proofs.differs_side.Statement.{statement}
 use Rattle.checking.proofs.differs_side.Tie as tie

@@ -3,7 +3,7 @@ use mathlib.Core.Path.{_≡_, ap}
 use Rattle.model.specs.Strips.{Strip}
 use Rattle.nodes.specs.Places.{sideIn, stripIn, strip-eq}
 use Rattle.nodes.specs.Structs.{side, stripOf}
-use Rattle.checking.specs.Answers.{unless-true, unless-false, unless-last}
+use Rattle.checking.specs.Comparisons.{unless-true, unless-false, unless-last}
 use borrow.Author.Needs.{needs}
 use Rattle.checking.proofs.differs_strip.Statement.{statement}
 use Rattle.checking.proofs.differs_strip.Tie as tie

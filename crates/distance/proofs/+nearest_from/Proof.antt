@@ -15,7 +15,7 @@ use Rattle.model.specs.Explore.{Cell}
 use Rattle.model.specs.Distance.{leaves}
 use Rattle.subtrees.specs.Preorder.{tail, Begins, BeginsAll, all-first, all-others, all-yes}
 use Rattle.boxes.specs.Ranges.{pointAt}
-use Rattle.distance.specs.Answers.{BoundsOf, FoundIn}
+use Rattle.distance.specs.Lookups.{BoundsOf, FoundIn}
 use Rattle.subtrees.specs.Fronts.{room, front, counted, size-read, first-part}
 use Rattle.distance.proofs.Edges.{First, first-of, last-edge, more-edges, edge-below}
 use Prim.Native.Nat.{ℕ, _<_}

@@ -1,5 +1,5 @@
 -- The measure is the tree's node count. Assumes nothing.
-use mathlib.Core.Path.{_≡_, sym, _∙_}
+use mathlib.Core.Path.{_≡_}
 use mathlib.Core.List.{List}
 use Prim.Native.Nat.{_+_, _*_, _-_, _≤_}
 use native.Mathlib.Omega.{arith}
@@ -15,7 +15,7 @@ use Rattle.model.specs.Distance.{leaves}
 use Rattle.nodes.specs.Places.{countPlace}
 use Rattle.subtrees.specs.Halves.{front, first-sized, counted, split, left-counted, Read, read, below}
 use Rattle.boxes.specs.Ranges.{pointAt}
-use Rattle.distance.specs.Answers.{BoundsOf}
+use Rattle.distance.specs.Lookups.{BoundsOf}
 use Rattle.distance.proofs.Finds.{at-leaf, at-node, both}
 use Prim.Native.Nat.{ℕ, _<_}
 use borrow.Fn.Kinds.{In}

@@ -1,9 +1,8 @@
 -- `drawing::columns_of` meets its contract. Assumes nothing.
-use mathlib.Core.Path.{_≡_, ap₂, _∙_, subst, sym}
-use Prim.Native.Nat.{_-_, _^_, _≤_, _<_}
+use mathlib.Core.Path.{_≡_, ap₂, _∙_}
+use Prim.Native.Nat.{_-_, _^_, _<_}
 use native.Mathlib.Omega.{arith}
 use borrow.Author.Needs.{needs}
-use lib.IntN.{natAbs}
 use lib.Signed.{mag}
 use Rattle.integers.specs.Signed.{read32}
 use Rattle.model.specs.Jobs.{plateLog, cellLog}

@@ -1,5 +1,5 @@
 -- `drawing::draw_map` meets its contract: the plate is one block, drawn over what the map held. Assumes nothing.
-use mathlib.Core.Path.{_≡_, sym, subst}
+use mathlib.Core.Path.{sym, subst}
 use mathlib.Core.List.{List}
 use Prim.Native.Nat.{ℕ, _+_, _*_, _≤_}
 use native.Mathlib.Omega.{arith}
@@ -12,7 +12,7 @@ use Rattle.open_edges.specs.Starts.{Starts}
 use Rattle.filling.specs.Squares.{over, Drawn}
 use Rattle.drawing.specs.declared.Frame.{Frame}
 use Rattle.drawing.specs.Letters.{wayOf, ownLetter}
-use Rattle.drawing.specs.Ready.{Ready, MapReady}
+use Rattle.drawing.specs.Ready.{Ready}
 use Rattle.drawing.proofs.Maps.{held, count-most, whole-ready, inherits, map-is}
 use Rattle.drawing.proofs.draw_map.Statement.{statement}
 use Rattle.drawing.proofs.draw_map.Tie as tie

@@ -2,7 +2,7 @@ use Prim.Native.Nat.{_<_, _^_}
 use native.Mathlib.Omega.{arith}
 use lib.Signed.{mag}
 use Rattle.exports.specs.Counts.{nearest-few}
-use Rattle.exports.proofs.Steps as steps
+use Rattle.exports.proofs.Calls as steps
 use borrow.Author.Needs.{needs}
 use Rattle.exports.proofs.clearance_point.Statement.{statement}
 use Rattle.exports.proofs.clearance_point.Tie as tie

@@ -1,4 +1,4 @@
-use Rattle.exports.proofs.Steps as steps
+use Rattle.exports.proofs.Calls as steps
 use borrow.Author.Needs.{needs}
 use Rattle.exports.proofs.edge_number.Statement.{statement}
 use Rattle.exports.proofs.edge_number.Tie as tie

@@ -1,4 +1,4 @@
-use Rattle.flat_jobs.proofs.Steps as steps
+use Rattle.flat_jobs.proofs.Copying as steps
 use borrow.Author.Needs.{needs}
 use Rattle.flat_jobs.proofs.count_number.Statement.{statement}
 use Rattle.flat_jobs.proofs.count_number.Tie as tie

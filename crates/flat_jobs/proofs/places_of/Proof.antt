@@ -4,7 +4,7 @@ use native.Mathlib.Omega.{arith}
 use lib.Seq.{paste, paste-zero}
 use borrow.Author.Needs.{needs}
 use Rattle.flat_jobs.specs.FlatJobs.{placesLong, placesFrom}
-use Rattle.flat_jobs.proofs.Steps as steps
+use Rattle.flat_jobs.proofs.Copying as steps
 use Rattle.flat_jobs.proofs.places_of.Statement.{statement}
 use Rattle.flat_jobs.proofs.places_of.Tie as tie
 

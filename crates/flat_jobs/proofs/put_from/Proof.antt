@@ -4,7 +4,7 @@ use native.Mathlib.Omega.{arith}
 use lib.IntN.{pos}
 use lib.ListN.{length, getD, length-set}
 use lib.Seq.{paste, paste-zero}
-use Rattle.flat_jobs.proofs.Steps as steps
+use Rattle.flat_jobs.proofs.Copying as steps
 use Rattle.flat_jobs.proofs.put_from.Statement.{statement}
 use Rattle.flat_jobs.proofs.put_from.Tie as tie
 

@@ -3,7 +3,7 @@ use mathlib.Core.Path.{_≡_}
 use lib.ListN.{length}
 use Rattle.model.specs.Promises.{Whole}
 use Rattle.flat_jobs.specs.FlatJobs.{rowLong}
-use Rattle.flat_jobs.proofs.Steps as steps
+use Rattle.flat_jobs.proofs.Copying as steps
 use borrow.Author.Needs.{needs}
 use Rattle.flat_jobs.proofs.put_job.Statement.{statement}
 use Rattle.flat_jobs.proofs.put_job.Tie as tie

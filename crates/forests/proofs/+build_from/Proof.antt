@@ -11,7 +11,7 @@ use Rattle.model.specs.Trees.{Tree, tree}
 use Rattle.model.specs.Store.{width, size, flatten}
 use Rattle.sequences.specs.Parts.{tail-mid}
 use Rattle.forests.specs.Walk.{treesFrom, end-is}
-use Rattle.forests.proofs.Steps.{Split, split, length-built, built}
+use Rattle.forests.proofs.NextEdge.{Split, split, length-built, built}
 use Prim.Native.Nat.{ℕ, _<_}
 use borrow.Fn.Kinds.{In}
 use borrow.Fn.PlainCycle.{Measures, is, falls, and}

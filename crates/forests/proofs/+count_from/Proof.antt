@@ -11,7 +11,7 @@ use Rattle.model.specs.Store.{size}
 use Rattle.subtrees.specs.Counts.{count, kept}
 use Rattle.subtrees.specs.Sizes.{few-nodes}
 use Rattle.forests.specs.Walk.{treesFrom, end-is, more-is}
-use Rattle.forests.proofs.Steps.{count-stop, count-go}
+use Rattle.forests.proofs.NextEdge.{count-stop, count-go}
 use Prim.Native.Nat.{ℕ, _<_}
 use borrow.Fn.Kinds.{In}
 use borrow.Fn.PlainCycle.{Measures, is, falls, and}

@@ -9,9 +9,9 @@ use Rattle.model.specs.Jobs.{edgeAt}
 use Rattle.model.specs.Trees.{Tree, tree}
 use Rattle.model.specs.Store.{width, size}
 use Rattle.subtrees.specs.Preorder.{size-pos, tail, Begins, all-first}
-use Rattle.checking.specs.Answers.{Told, refused, granted}
+use Rattle.checking.specs.Comparisons.{Told, refused, granted}
 use Rattle.forests.specs.Walk.{treesFrom, end-is}
-use Rattle.forests.proofs.Steps.{Split, split, says-more}
+use Rattle.forests.proofs.NextEdge.{Split, split, says-more}
 use Prim.Native.Nat.{ℕ, _<_}
 use borrow.Fn.Kinds.{In}
 use borrow.Fn.PlainCycle.{Measures, is, falls, and}

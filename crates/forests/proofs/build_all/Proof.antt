@@ -1,7 +1,7 @@
 -- The walk from edge 0 is the job's. Assumes nothing.
 use borrow.Author.Needs.{needs}
 use Rattle.forests.specs.Walk.{from-first}
-use Rattle.forests.proofs.Steps.{from-start, wide-fits, wide-is}
+use Rattle.forests.proofs.NextEdge.{from-start, wide-fits, wide-is}
 use Rattle.forests.proofs.build_all.Statement.{statement}
 use Rattle.forests.proofs.build_all.Tie as tie
 

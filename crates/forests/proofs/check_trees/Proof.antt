@@ -2,7 +2,6 @@
 use mathlib.Core.Path.{_≡_, refl}
 use mathlib.Core.Bool.{cond}
 use mir.Facts.{toZ-ofZ}
-use borrow.Author.Needs.{needs}
 use Rattle.model.specs.Jobs.{edgesFrom}
 use Rattle.model.specs.Trees.{trees, anyLong}
 use Rattle.model.specs.Store.{sizes}

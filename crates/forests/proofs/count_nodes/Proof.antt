@@ -2,7 +2,7 @@
 use native.Mathlib.Nat.{zero-add}
 use native.Mathlib.Omega.{arith}
 use Rattle.forests.specs.Walk.{from-first}
-use Rattle.forests.proofs.Steps.{wide-fits, wide-is}
+use Rattle.forests.proofs.NextEdge.{wide-fits, wide-is}
 use Rattle.forests.proofs.count_nodes.Statement.{statement}
 use Rattle.forests.proofs.count_nodes.Tie as tie
 

@@ -2,7 +2,7 @@
 use Rattle.model.specs.Jobs.{edgesFrom}
 use Rattle.model.specs.Trees.{trees}
 use Rattle.forests.specs.Walk.{from-first}
-use Rattle.forests.proofs.Steps.{from-start, wide-fits, wide-is, says-begins}
+use Rattle.forests.proofs.NextEdge.{from-start, wide-fits, wide-is, says-begins}
 use Rattle.forests.proofs.holds_all.Statement.{statement}
 use Rattle.forests.proofs.holds_all.Tie as tie
 

@@ -1,7 +1,7 @@
 use Prim.Native.Nat.{_<_, _^_}
 use lib.Signed.{mag}
 use lib.ListN.{length}
-use Rattle.mapping.proofs.Steps as steps
+use Rattle.mapping.proofs.MapEntry as steps
 use borrow.Author.Needs.{needs}
 use Rattle.mapping.proofs.draw.Statement.{statement}
 use Rattle.mapping.proofs.draw.Tie as tie

@@ -10,7 +10,7 @@ use Rattle.model.specs.Store.{forest}
 use Rattle.ranges.specs.Legal.{legal}
 use Rattle.ranges.specs.Jobs.{grain-sized}
 use Rattle.forests.specs.Told.{Told, told-of, trees-ready}
-use Rattle.mapping.proofs.Steps as steps
+use Rattle.mapping.proofs.MapEntry as steps
 use Rattle.mapping.proofs.go_through.Statement.{statement}
 use Rattle.mapping.proofs.go_through.Tie as tie
 

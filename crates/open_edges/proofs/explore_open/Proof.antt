@@ -4,7 +4,7 @@ use mathlib.Core.List.{List}
 use lib.Seq.{length-take-le, getD-take}
 use Rattle.model.specs.Strips.{Strip}
 use Rattle.model.specs.Trees.{Tree}
-use Rattle.verdicts.specs.Answers.{clash}
+use Rattle.verdicts.specs.AnswerCases.{clash}
 use Rattle.inheritance.specs.Edges.{opened}
 use Prim.Native.Nat.{ℕ, _-_, _≤_, _<_}
 use mathlib.Core.Path.{_≡_, _∙_}

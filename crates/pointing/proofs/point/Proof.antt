@@ -1,7 +1,6 @@
 -- Each return is one of the answers of `Answers`. Assumes nothing.
 use mathlib.Core.Path.{_≡_, refl, sym, _∙_}
 use mathlib.Core.Bool.{true}
-use mathlib.Core.List.{List}
 use borrow.Author.Needs.{needs}
 use lib.ListN.{length}
 use mir.Syntax.{w32}
@@ -14,7 +13,7 @@ use Rattle.model.specs.Store.{forest, storeOf, begins}
 use Rattle.ranges.specs.Jobs.{grain-sized}
 use Rattle.forests.specs.Told.{checksOf, Told, told-of, trees-ready, whole-ready}
 use Rattle.pointing.specs.Checks.{asking}
-use Rattle.pointing.proofs.Answers.{refuse, accept, asked, Passed, passed, trees-refused, store-answer, begun, trees-many, trees-there}
+use Rattle.pointing.proofs.Found.{refuse, accept, asked, Passed, passed, trees-refused, store-answer, begun, trees-many, trees-there}
 use Rattle.pointing.proofs.point.Statement.{statement}
 use Rattle.pointing.proofs.point.Tie as tie
 

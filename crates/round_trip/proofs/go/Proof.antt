@@ -4,7 +4,7 @@ use native.Mathlib.Omega.{arith}
 use lib.ListN.{length}
 use lib.Seq.{length-take-le}
 use Rattle.model.specs.Promises.{Whole}
-use Rattle.round_trip.proofs.Steps as steps
+use Rattle.round_trip.proofs.Trips as steps
 use borrow.Author.Needs.{needs}
 use Rattle.round_trip.proofs.go.Statement.{statement}
 use Rattle.round_trip.proofs.go.Tie as tie

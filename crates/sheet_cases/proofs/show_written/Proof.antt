@@ -2,7 +2,7 @@ use mathlib.Core.Path.{_≡_, sym}
 use native.Mathlib.Omega.{arith}
 use lib.Seq.{length-take-le}
 use borrow.Author.Needs.{needs}
-use Rattle.sheet_cases.proofs.Steps as steps
+use Rattle.sheet_cases.proofs.Sheets as steps
 use Rattle.sheet_cases.proofs.show_written.Statement.{statement}
 use Rattle.sheet_cases.proofs.show_written.Tie as tie
 

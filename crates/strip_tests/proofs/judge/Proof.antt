@@ -6,7 +6,7 @@ use mathlib.Core.Path.{_≡_, refl, _∙_, sym}
 use Rattle.integers.specs.Absolute.{absℤ}
 use mathlib.Core.Bool.{Bool, true, false, _||_}
 use Rattle.model.specs.Explore.{byTests}
-use Rattle.verdicts.specs.Answers.{clash}
+use Rattle.verdicts.specs.AnswerCases.{clash}
 use Rattle.strip_tests.specs.PlainTests.{code, insideBy, apartBy, slantedBy}
 use borrow.Author.Needs.{needs}
 use Rattle.strip_tests.proofs.judge.Statement.{statement}

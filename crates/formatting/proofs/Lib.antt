@@ -1,0 +1,3 @@
+-- What the proofs of the writers need: of bytes, of numbers, and of forms.
+pub mod Copies
+pub mod Forms

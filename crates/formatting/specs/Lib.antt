@@ -1,0 +1,3 @@
+-- What the writers leave.
+pub mod Puts
+pub mod Texts

@@ -1,2 +1,0 @@
--- What the writers leave.
-pub mod Puts
