@@ -20,6 +20,10 @@ unfoldable pub digitOf : List ℕ → ℕ
 digitOf [] = 10
 digitOf (b ∷ s) = cond (digit b) (b - 48) 10
 
+-- how many digits the code takes after a number's first
+abbrev pub following : ℕ
+following = 6
+
 -- ---- numbers and lines, and the answers where there is none
 abbrev pub noNatural : Natural
 noNatural = record { found = false; value = 0; next = 0 }

@@ -13,6 +13,13 @@ cubic b0 b1 b2 b3 = record { b0 = b0; b1 = b1; b2 = b2; b3 = b3 }
 abbrev pub form : Power → PowerForm
 form c = record { c0 = c .c0; c1 = c .c1; c2 = c .c2; c3 = c .c3 }
 
+-- ---- numbers of the code: what an axis has of a3, and a box for the roundings
+abbrev pub share : ℕ
+share = 12
+
+abbrev pub pad : ℕ
+pad = 2
+
 -- ---- a shape's strips, piece k of depth d for each d and k, and the sizes for which none of their numbers leaves 64 bits
 unfoldable pub stripsOf : Shape → ℕ → ℕ → Strip
 stripsOf s d k = record { x = sideAt (form (s .x)) (denominator d) (middle k); y = sideAt (form (s .y)) (denominator d) (middle k) }

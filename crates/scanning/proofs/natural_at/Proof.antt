@@ -5,15 +5,16 @@ use native.Mathlib.Omega.{arith}
 use lib.ListN.{length, drop}
 use borrow.Author.Needs.{needs}
 use Rattle.model.specs.Numbers.{natural, moreDigits}
+use Rattle.scanning.specs.Scanned.{following}
 use Rattle.scanning.proofs.Numbers as steps
 use Rattle.scanning.proofs.natural_at.Statement.{statement}
 use Rattle.scanning.proofs.natural_at.Tie as tie
 
 abbrev Inv-loop : tie.InvT-loop
-Inv-loop s at d v₀ i₀ k₀ v i k = (natural (drop at s) ≡ moreDigits (6 - k) v (drop i s)) × (k ≤ 6) × (i ≤ length s) × (v < 10 ^ suc k)
+Inv-loop s at d v₀ i₀ k₀ v i k = (natural (drop at s) ≡ moreDigits (following - k) v (drop i s)) × (k ≤ following) × (i ≤ length s) × (v < 10 ^ suc k)
 
 abbrev μ-loop : tie.MeasureT-loop
-μ-loop s at d v₀ i₀ k₀ v i k = 6 - k
+μ-loop s at d v₀ i₀ k₀ v i k = following - k
 
 digit-at-requires : tie.Need-digit-at-requires Inv-loop μ-loop
 digit-at-requires c κs = tt

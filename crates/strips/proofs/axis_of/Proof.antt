@@ -1,19 +1,14 @@
 -- Nothing wraps, and the quotient is rounded by `rounded`. Assumes nothing.
-use Prim.Native.Nat.{ℕ}
 use mir.Facts.{toZ-ofZ}
 use Rattle.integers.specs.Signed.{Made, held, lit, widen, plus, times, back}
 use Rattle.integers.specs.Signed.{read64}
 use Rattle.strips.proofs.Results.{got}
 use Rattle.model.specs.Strips as model
 use Rattle.ranges.specs.PowerForm.{c3Most, a1Most}
-use Rattle.strips.specs.Structs.{form}
+use Rattle.strips.specs.Structs.{form, share}
 use borrow.Author.Needs.{needs}
 use Rattle.strips.proofs.axis_of.Statement.{statement}
 use Rattle.strips.proofs.axis_of.Tie as tie
-
--- what the axis has of the cubic's last coefficient
-abbrev share : ℕ
-share = 12
 
 module _ (c : tie.After-struct-told) where
   a1 : Made (c .before .a1-of .result) (model.a1 (form (c .before .before .args .c)) (c .before .before .args .n) (c .before .before .args .m)) a1Most

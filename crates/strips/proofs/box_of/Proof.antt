@@ -11,15 +11,11 @@ use Rattle.integers.specs.Rounding.{nearest}
 use Rattle.integers.specs.Signed.{Made, held, lit, widen, plus, times, back, called, sized}
 use Rattle.model.specs.Strips as model
 use Rattle.ranges.specs.PowerForm.{c3Most, a2Most, secondMost, thirdMost}
-use Rattle.strips.specs.Structs.{form}
+use Rattle.strips.specs.Structs.{form, pad}
 use Rattle.strips.proofs.Results.{got}
 use borrow.Author.Needs.{needs}
 use Rattle.strips.proofs.box_of.Statement.{statement}
 use Rattle.strips.proofs.box_of.Tie as tie
-
--- what the box has for the roundings
-abbrev pad : ℕ
-pad = 2
 
 a2 : (c : tie.After-struct-told) → Made (c .before .a2-of .result) (model.a2 (form (c .before .before .args .c)) (c .before .before .args .n) (c .before .before .args .m)) a2Most
 a2 c = let s = c .before .before in let e = rw (toZ-ofZ (s .fits .n), toZ-ofZ (s .fits .m)) at (c .before .a2-of .ensures) in got (e .0) (e .1) tt
