@@ -19,7 +19,7 @@ two′ p a b t i j hp hi =
     rw (← append-assoc p a t, take-at (p ++ a) t i hi, drop-at (p ++ a) t i hi, append-assoc p a, drop-at p _ width hp)
     (sym (append-assoc a b (drop j t)))
 
--- what the builder leaves after the first node's seven numbers
+-- what the builder leaves after the first node's numbers
 pub two : (s a b : List ℤ) (m n : ℕ) → length a ≡ width * m → width + width * m + width * n ≤ length s →
     drop width (take (width + width * m) (take width s ++ (a ++ drop (width * m) (drop width s))) ++ (b ++ drop (width * n) (drop (width + width * m) (take width s ++ (a ++ drop (width * m) (drop width s))))))
     ≡ (a ++ b) ++ drop (width * suc (m + n)) s

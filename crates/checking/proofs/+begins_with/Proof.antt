@@ -48,8 +48,8 @@ left-of t s = subtree (s .args .grain) (stripsOf (s .args .shape)) (s .args .d +
 abbrev right-of : (t : ℕ) → begins-with-lts.Start (callees t) (begins-with-at t) begins-with.Post → Tree
 right-of t s = subtree (s .args .grain) (stripsOf (s .args .shape)) (s .args .d + 1) (2 * s .args .k + 1)
 
-seven : (t : ℕ) (s : begins-with-lts.Start (callees t) (begins-with-at t) begins-with.Post) → width ≤ length (s .args .s .now)
-seven t s = omega (arith, size-pos (whole-of t s), s .pre .1 .1 .fits)
+node-fits : (t : ℕ) (s : begins-with-lts.Start (callees t) (begins-with-at t) begins-with.Post) → width ≤ length (s .args .s .now)
+node-fits t s = omega (arith, size-pos (whole-of t s), s .pre .1 .1 .fits)
 
 short-is : (t : ℕ) (c : begins-with-lts.After-piece-of (callees t) (begins-with-at t) begins-with.Post) → let s = c .before in c .piece-of .result .short ≡ short (s .args .grain) (stripsOf (s .args .shape) (s .args .d) (s .args .k))
 short-is t c = rw (toZ-ofZ (c .before .fits .grain)) at (c .piece-of .ensures .1 .1)
@@ -109,7 +109,7 @@ begins-with-piece-of-requires : (t : ℕ) → begins-with-lts.Need-piece-of-requ
 begins-with-piece-of-requires t c κs = let p = c .pre .1 in (p .0 .0, p .1 .piece, rw (toZ-ofZ (c .fits .grain)) (p .0 .1))
 
 begins-with-differs-strip-requires : (t : ℕ) → begins-with-lts.Need-differs-strip-requires (callees t) (begins-with-at t) begins-with.Post
-begins-with-differs-strip-requires t c κs = let a = c .before .before in (seven t (a .before), a .piece-of .ensures .1 .0 .x-sized, a .piece-of .ensures .1 .0 .y-sized)
+begins-with-differs-strip-requires t c κs = let a = c .before .before in (node-fits t (a .before), a .piece-of .ensures .1 .0 .x-sized, a .piece-of .ensures .1 .0 .y-sized)
 
 begins-with-returns : (t : ℕ) → begins-with-lts.Need-returns (callees t) (begins-with-at t) begins-with.Post
 begins-with-returns t c =
@@ -118,7 +118,7 @@ begins-with-returns t c =
     no-strip (s .args .grain) (stripsOf (s .args .shape)) (s .args .d) (s .args .k) (stripOf (a .piece-of .result .x) (a .piece-of .result .y)) (strip-is t a) (s .args .s .now) (unless-true (c .before .differs-strip .result) (stripIn (s .args .s .now) ≡ stripOf (a .piece-of .result .x) (a .piece-of .result .y)) (c .before .differs-strip .ensures) (c .if1 .taken))
 
 begins-with-differs-count-requires : (t : ℕ) → begins-with-lts.Need-differs-count-requires (callees t) (begins-with-at t) begins-with.Post
-begins-with-differs-count-requires t c κs = (seven t (c .before .before .before .before .before .before), omega arith)
+begins-with-differs-count-requires t c κs = (node-fits t (c .before .before .before .before .before .before), omega arith)
 
 begins-with-returns-2 : (t : ℕ) → begins-with-lts.Need-returns-2 (callees t) (begins-with-at t) begins-with.Post
 begins-with-returns-2 t c =
@@ -130,7 +130,7 @@ begins-with-returns-3 : (t : ℕ) → begins-with-lts.Need-returns-3 (callees t)
 begins-with-returns-3 t c =
     let s = c .before .before .before .before .before .before .before .before in
     let a = c .before .before .before .before .before .before .before in
-    yes-leaf (s .args .grain) (stripsOf (s .args .shape)) (s .args .d) (s .args .k) (stripOf (a .piece-of .result .x) (a .piece-of .result .y)) (strip-is t a) (s .args .s .now) (sym (short-is t a) ∙ c .before .before .if2 .taken) (seven t s) (strip-at t (c .before .before .before)) (unless-false (c .before .differs-count .result) (getD (s .args .s .now) countPlace (pos 0) ≡ pos 1) (c .before .differs-count .ensures) (c .if3 .left))
+    yes-leaf (s .args .grain) (stripsOf (s .args .shape)) (s .args .d) (s .args .k) (stripOf (a .piece-of .result .x) (a .piece-of .result .y)) (strip-is t a) (s .args .s .now) (sym (short-is t a) ∙ c .before .before .if2 .taken) (node-fits t s) (strip-at t (c .before .before .before)) (unless-false (c .before .differs-count .result) (getD (s .args .s .now) countPlace (pos 0) ≡ pos 1) (c .before .differs-count .ensures) (c .if3 .left))
 
 begins-with-sub-begins-with : (t : ℕ) → begins-with-lts.Need-sub-begins-with (callees t) (begins-with-at t) begins-with.Post
 begins-with-sub-begins-with t c = omega (arith, room t c)
@@ -212,7 +212,7 @@ begins-with-add-nodes-2 : (t : ℕ) → begins-with-lts.Need-add-nodes-2 (callee
 begins-with-add-nodes-2 t c = omega (arith, few-at t c)
 
 begins-with-differs-count-requires-2 : (t : ℕ) → begins-with-lts.Need-differs-count-requires-2 (callees t) (begins-with-at t) begins-with.Post
-begins-with-differs-count-requires-2 t c κs = (seven t (c .before .before .before .before .before .before .before .before .before .before .before .before), few-at t c)
+begins-with-differs-count-requires-2 t c κs = (node-fits t (c .before .before .before .before .before .before .before .before .before .before .before .before), few-at t c)
 
 -- at the node: its count as the code makes it from its halves', and what comparing that count told
 module _ (t : ℕ) (c : begins-with-lts.After-differs-count2 (callees t) (begins-with-at t) begins-with.Post) where
@@ -240,7 +240,7 @@ begins-with-returns-7 t c =
     let k = c .before in
     let s = start t k in
     let a = k .before .before .before .before .before .before .before .before .before .before .before .before in
-    rw (nodes-is t k) (yes-node (s .args .grain) (stripsOf (s .args .shape)) (s .args .d) (s .args .k) (stripOf (a .piece-of .result .x) (a .piece-of .result .y)) (strip-is t a) (s .args .s .now) (fork-at t (k .before .before .before .before .before .before .before)) (seven t s) (strip-at t (k .before .before .before .before .before .before .before .before)) (left-is t (k .before .before .before .before) .1) (right-is t (k .before) .1) (unless-false (k .differs-count2 .result) (getD (s .args .s .now) countPlace (pos 0) ≡ pos (nodes t k)) (count-told t k) (c .if6 .left)))
+    rw (nodes-is t k) (yes-node (s .args .grain) (stripsOf (s .args .shape)) (s .args .d) (s .args .k) (stripOf (a .piece-of .result .x) (a .piece-of .result .y)) (strip-is t a) (s .args .s .now) (fork-at t (k .before .before .before .before .before .before .before)) (node-fits t s) (strip-at t (k .before .before .before .before .before .before .before .before)) (left-is t (k .before .before .before .before) .1) (right-is t (k .before) .1) (unless-false (k .differs-count2 .result) (getD (s .args .s .now) countPlace (pos 0) ≡ pos (nodes t k)) (count-told t k) (c .if6 .left)))
 
 pub +begins-with-spec : {M : Type 1} → statement M
 +begins-with-spec = close μ-begins-with λ t. begins-with-lts.spec (callees t)
