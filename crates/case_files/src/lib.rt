@@ -3,8 +3,13 @@ use answering::Input;
 use libc::STDOUT_FILENO;
 use model::Read;
 ghost use mathlib.Core.Path.{_≡_};
+ghost use mathlib.Core.List.{[], _∷_};
 ghost use Prim.Native.Nat.{min};
+ghost use lib.IntN.{pos};
+ghost use lib.ListN.{length};
 ghost use Rattle.io.specs.Counts.{Counts};
+ghost use Rattle.model.specs.Forms.{writeForm};
+ghost use Rattle.model.specs.Printing.{refusedForm};
 ghost use Rattle.model.specs.Entries.{read};
 
 // The smaller of two numbers: what a count says, and no more than there is.
@@ -37,10 +42,11 @@ pub fn read_case(i: usize, sheet: &mut [u8]) -> Input
     input
 }
 
-// Shows the refusal that reading a sheet gives, and nothing else.
-pub fn show_refused(got: Read, sheet: &[u8])
+// Shows the refusal that reading a sheet gives, and nothing else, and says how many bytes its line has.
+pub fn show_refused(got: Read, sheet: &[u8]) -> usize
     requires answer { ⌜ got ≡ read (now sheet) ⌝ }
+    ensures bytes { λ r. ⌜ r ≡ length (writeForm refusedForm (pos (got .refusal) ∷ [])) ⌝ }
 {
     let refusal = got.refusal;
-    answering::show_refusal(refusal);
+    answering::show_refusal(refusal)
 }
