@@ -10,6 +10,7 @@ ghost use mathlib.Core.Bool.{true};
 ghost use mathlib.Core.List.{[], _∷_};
 ghost use Prim.Native.Nat.{_≤_};
 ghost use lib.IntN.{pos};
+ghost use lib.Signed.{ltZ};
 ghost use lib.ListN.{length, take};
 ghost use Rattle.model.specs.Forms.{writeForm};
 ghost use Rattle.model.specs.Printing.{refusedForm, mapAnswered, printed};
@@ -62,16 +63,25 @@ struct Turn {
     failed: bool,
 }
 
-// Reads once. A read that a signal breaks off before it has a byte counts as failed.
-fn read_once(fd: i32, part: &mut [u8]) -> Turn
-    ensures within { λ r. ⌜ r .count ≤ length (now (part .exit)) ⌝ }
+// What a read's answer says of memory that was lent to it: below 0 it failed, and otherwise that many bytes are there. A read that a signal
+// breaks off before it has a byte answers below 0 and counts as failed.
+fn turn_of(got: isize, part: &[u8]) -> Turn
+    ensures failed { λ r. ⌜ r .failed ≡ ltZ got (pos 0) ⌝ }
+    ensures within { λ r. ⌜ r .count ≤ length (now (part .entry)) ⌝ }
 {
-    let got = libc::read(fd, part);
     let count = io::count(got, part);
     Turn {
         count: count,
         failed: got < 0,
     }
+}
+
+// Reads once.
+fn read_once(fd: i32, part: &mut [u8]) -> Turn
+    ensures within { λ r. ⌜ r .count ≤ length (now (part .exit)) ⌝ }
+{
+    let got = libc::read(fd, part);
+    turn_of(got, part)
 }
 
 // Reads an input from its front, piece after piece, until it ends, a read fails or the memory lent is full.

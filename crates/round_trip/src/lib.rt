@@ -11,8 +11,8 @@ pub struct Trip {
     pub mapped: u8,
 }
 
-// Writes the job at the front of `out`, reads the bytes written, and maps the job that they hold. A job that was not written is not mapped:
-// what an accepted map shows is the job that was given.
+// Writes the job at the front of `out`, reads the bytes written, and maps the job that they hold. Whatever writing gave, an accepted map is true of
+// the job that was given.
 pub fn go(job: Job, out: &mut [u8], store: &mut [i32], cells: &mut [u8]) -> Trip
     ensures written { λ r. ⌜ r .written ≡ entries.write job (now (out .entry)) .refusal ⌝ }
     ensures came_back { λ r. ⌜ (r .written ≡ 0 → r .job ≡ job) ⌝ }
