@@ -21,7 +21,7 @@ ghost use Rattle.ranges.specs.Jobs.{Limits, GrainSized};
 ghost use Rattle.subtrees.specs.Preorder.{Begins, BeginsAll};
 ghost use Rattle.subtrees.specs.Counts.{count};
 ghost use Rattle.strips.specs.Structs.{form, stripsOf, ShapeSized};
-ghost use Rattle.checking.specs.Comparisons.{Told as Found};
+ghost use Rattle.strip_trees.specs.Comparisons.{Told as Found};
 ghost use Rattle.forests.specs.Ready.{Ready};
 ghost use Rattle.forests.specs.Walk.{treesFrom, Ahead, Whole, Says};
 ghost use Rattle.forests.specs.Told.{Told};
@@ -67,7 +67,7 @@ fn count_edge(places: &[i32; 512], e: usize, grain: i64) -> usize
     ensures counted { λ r. ⌜ r ≡ count (tree grain (edgeAt (now (places .entry)) e)) ⌝ }
 {
     let shape = shape_of(places, e);
-    counting::nodes_of(shape, 0, 0, grain)
+    strip_trees::nodes_of(shape, 0, 0, grain)
 }
 
 // writes the tree of edge e at the front of s, and returns its nodes
@@ -77,7 +77,7 @@ fn build_edge(s: &mut [i32], places: &[i32; 512], e: usize, grain: i64) -> usize
     ensures written { λ _. ⌜ now (s .exit) ≡ flatten (tree grain (edgeAt (now (places .entry)) e)) ++ drop (width * size (tree grain (edgeAt (now (places .entry)) e))) (now (s .entry)) ⌝ }
 {
     let shape = shape_of(places, e);
-    building::build(s, shape, 0, 0, grain)
+    strip_trees::build(s, shape, 0, 0, grain)
 }
 
 // the nodes of the tree of edge e if s begins with it, and 0 otherwise
@@ -86,7 +86,7 @@ fn check_edge(s: &[i32], places: &[i32; 512], e: usize, grain: i64) -> usize
     ensures told { λ r. ⌜ Found r (size (tree grain (edgeAt (now (places .entry)) e))) (Begins (tree grain (edgeAt (now (places .entry)) e)) (now (s .entry))) ⌝ }
 {
     let shape = shape_of(places, e);
-    checking::begins_with(s, shape, 0, 0, grain)
+    strip_trees::begins_with(s, shape, 0, 0, grain)
 }
 
 // ---- from edge e on

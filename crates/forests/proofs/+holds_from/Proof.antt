@@ -9,7 +9,7 @@ use Rattle.model.specs.Jobs.{edgeAt}
 use Rattle.model.specs.Trees.{Tree, tree}
 use Rattle.model.specs.Store.{width, size}
 use Rattle.subtrees.specs.Preorder.{size-pos, tail, Begins, all-first}
-use Rattle.checking.specs.Comparisons.{Told, refused, granted}
+use Rattle.strip_trees.specs.Comparisons.{Told, refused, granted}
 use Rattle.forests.specs.Walk.{treesFrom, end-is}
 use Rattle.forests.proofs.NextEdge.{Split, split, says-more}
 use Prim.Native.Nat.{ℕ, _<_}

@@ -13,19 +13,19 @@ use Rattle.subtrees.specs.Preorder.{size-pos, tail, Begins}
 use Rattle.subtrees.specs.Subtrees.{subtree, left-half, right-half, place-most, at-short, few, Forked, forked}
 use Rattle.nodes.specs.Structs.{stripOf}
 use Rattle.strips.specs.Structs.{stripsOf}
-use Rattle.checking.specs.Comparisons.{Unless, Told, unless-true, unless-false, refused, granted}
-use Rattle.checking.proofs.Found.{no-strip, no-count, yes-leaf, no-left, no-right, yes-node}
+use Rattle.strip_trees.specs.Comparisons.{Unless, Told, unless-true, unless-false, refused, granted}
+use Rattle.strip_trees.proofs.Found.{no-strip, no-count, yes-leaf, no-left, no-right, yes-node}
 use Prim.Native.Nat.{ℕ, _<_}
 use borrow.Fn.Kinds.{In}
 use borrow.Fn.PlainCycle.{Measures, is, falls, and}
-use Rattle.checking.proofs.begins_with.Reads as begins-with
-use Rattle.checking.proofs.begins_with.Kinds as begins-with-kinds
-use Rattle.checking.proofs.+begins_with.Lts-begins_with as begins-with-lts
-use Rattle.checking.proofs.differs_count.Reads as differs-count-reads
-use Rattle.checking.proofs.differs_strip.Reads as differs-strip-reads
+use Rattle.strip_trees.proofs.begins_with.Reads as begins-with
+use Rattle.strip_trees.proofs.begins_with.Kinds as begins-with-kinds
+use Rattle.strip_trees.proofs.+begins_with.Lts-begins_with as begins-with-lts
+use Rattle.strip_trees.proofs.differs_count.Reads as differs-count-reads
+use Rattle.strip_trees.proofs.differs_strip.Reads as differs-strip-reads
 use Rattle.strips.proofs.piece_of.Reads as piece-of-reads
-use Rattle.checking.proofs.+begins_with.{statement}
-use Rattle.checking.proofs.+begins_with.Tie.{close}
+use Rattle.strip_trees.proofs.+begins_with.{statement}
+use Rattle.strip_trees.proofs.+begins_with.Tie.{close}
 
 abbrev μ-begins-with : Measures 1 begins-with-kinds.ps ℕ
 μ-begins-with κs a = deepest - a .1 .1 .0

@@ -4,8 +4,8 @@ use mir.Syntax.{w64}
 use mir.Val.{ofZ}
 use Rattle.integers.specs.Signed.{same64}
 use borrow.Author.Needs.{needs}
-use Rattle.checking.proofs.differs.Statement.{statement}
-use Rattle.checking.proofs.differs.Tie as tie
+use Rattle.strip_trees.proofs.differs.Statement.{statement}
+use Rattle.strip_trees.proofs.differs.Tie as tie
 
 wide-at-requires : tie.Need-wide-at-requires
 wide-at-requires c κs = search needs

@@ -14,17 +14,17 @@ use Rattle.subtrees.specs.Preorder.{size-pos}
 use Rattle.subtrees.specs.Subtrees.{subtree, left-half, right-half, place-most, at-short, few, Forked, forked}
 use Rattle.nodes.specs.Structs.{stripOf}
 use Rattle.strips.specs.Structs.{stripsOf}
-use Rattle.building.proofs.Halves.{both, put-eq}
+use Rattle.strip_trees.proofs.Halves.{both, put-eq}
 use Prim.Native.Nat.{ℕ, _<_}
 use borrow.Fn.Kinds.{In}
 use borrow.Fn.PlainCycle.{Measures, is, falls, and}
-use Rattle.building.proofs.build.Reads as build
-use Rattle.building.proofs.build.Kinds as build-kinds
-use Rattle.building.proofs.+build.Lts-build as build-lts
+use Rattle.strip_trees.proofs.build.Reads as build
+use Rattle.strip_trees.proofs.build.Kinds as build-kinds
+use Rattle.strip_trees.proofs.+build.Lts-build as build-lts
 use Rattle.nodes.proofs.put.Reads as put-reads
 use Rattle.strips.proofs.piece_of.Reads as piece-of-reads
-use Rattle.building.proofs.+build.{statement}
-use Rattle.building.proofs.+build.Tie.{close}
+use Rattle.strip_trees.proofs.+build.{statement}
+use Rattle.strip_trees.proofs.+build.Tie.{close}
 
 abbrev μ-build : Measures 1 build-kinds.ps ℕ
 μ-build κs a = deepest - a .1 .1 .0

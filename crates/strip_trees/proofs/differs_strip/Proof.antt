@@ -3,10 +3,10 @@ use mathlib.Core.Path.{_≡_, ap}
 use Rattle.model.specs.Strips.{Strip}
 use Rattle.nodes.specs.Places.{sideIn, stripIn, strip-eq}
 use Rattle.nodes.specs.Structs.{side, stripOf}
-use Rattle.checking.specs.Comparisons.{unless-true, unless-false, unless-last}
+use Rattle.strip_trees.specs.Comparisons.{unless-true, unless-false, unless-last}
 use borrow.Author.Needs.{needs}
-use Rattle.checking.proofs.differs_strip.Statement.{statement}
-use Rattle.checking.proofs.differs_strip.Tie as tie
+use Rattle.strip_trees.proofs.differs_strip.Statement.{statement}
+use Rattle.strip_trees.proofs.differs_strip.Tie as tie
 
 differs-side-requires : tie.Need-differs-side-requires
 differs-side-requires c κs = search needs

@@ -4,8 +4,8 @@ use mir.Facts.{toZ-pos}
 use native.Mathlib.Omega.{arith}
 use Prim.Native.Nat.{_<_, _^_}
 use borrow.Author.Needs.{needs}
-use Rattle.checking.proofs.differs_count.Statement.{statement}
-use Rattle.checking.proofs.differs_count.Tie as tie
+use Rattle.strip_trees.proofs.differs_count.Statement.{statement}
+use Rattle.strip_trees.proofs.differs_count.Tie as tie
 
 cast-differs : tie.Need-cast-differs
 cast-differs c = search needs

@@ -12,7 +12,7 @@ use Rattle.model.specs.Store.{width, size}
 use Rattle.nodes.specs.Places.{countPlace, stripIn}
 use Rattle.subtrees.specs.Preorder.{Begins, begins-strip, begins-count, leaf-begins, node-left, node-right, node-begins}
 use Rattle.subtrees.specs.Subtrees.{subtree, at-short, top-is, Forked}
-use Rattle.checking.specs.Comparisons.{Told}
+use Rattle.strip_trees.specs.Comparisons.{Told}
 
 module _ (T : ℤ) (strips : ℕ → ℕ → Strip) (d k : ℕ) (s : Strip) (h-strip : s ≡ strips d k) (l : List ℤ) where
   abbrev whole : Tree

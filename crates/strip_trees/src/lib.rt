@@ -1,4 +1,5 @@
-// Does a store begin with an edge's strip tree: compared number by number as the tree is walked, up to the first difference.
+// The strip tree of an edge: counted, built into a store, and compared with one. Each walk takes the edge's shape, of which only its strips are
+// known, and a piece by its depth and its place. RULES, "Trees" and "Store".
 use nodes::AXIS;
 use nodes::BOX;
 use nodes::CENTRE;
@@ -7,20 +8,76 @@ use nodes::Extent;
 use nodes::WIDTH;
 use nodes::X;
 use nodes::Y;
+use strips::DEEPEST;
 use strips::Shape;
 ghost use mathlib.Core.Path.{_≡_};
-ghost use mathlib.Core.Bool.{false};
-ghost use Prim.Native.Nat.{_*_, _≤_, _<_};
-ghost use lib.IntN.{pos, natAbs};
-ghost use lib.ListN.{length, getD};
-ghost use Rattle.model.specs.Store.{width, size};
+ghost use Prim.Native.Nat.{_≤_, _*_, _<_};
+ghost use lib.IntN.{natAbs, pos};
 ghost use Rattle.ranges.specs.Sizes.{grainMost, SideSized};
+ghost use Rattle.subtrees.specs.Subtrees.{PieceAt, subtree, Walkable};
+ghost use Rattle.subtrees.specs.Counts.{count};
+ghost use Rattle.strips.specs.Structs.{stripsOf, ShapeSized};
+ghost use mathlib.Core.List.{_++_};
+ghost use lib.ListN.{length, drop, getD};
+ghost use Rattle.model.specs.Store.{width, size, flatten};
+ghost use mathlib.Core.Bool.{false};
 ghost use Rattle.nodes.specs.Places.{countPlace, sideIn, stripIn};
 ghost use Rattle.subtrees.specs.Preorder.{Begins};
-ghost use Rattle.subtrees.specs.Subtrees.{subtree, Walkable};
 ghost use Rattle.nodes.specs.Structs.{side, stripOf};
-ghost use Rattle.strips.specs.Structs.{stripsOf, ShapeSized};
-ghost use Rattle.checking.specs.Comparisons.{Unless, Told};
+ghost use Rattle.strip_trees.specs.Comparisons.{Unless, Told};
+
+// ---- counted, without a store
+
+// The nodes of the subtree of piece k of depth d, or 0 if some piece of it is too long.
+pub fn nodes_of(shape: Shape, d: usize, k: usize, grain: i64) -> usize
+    requires sizes { ⌜ ShapeSized shape × PieceAt d k × (natAbs grain ≤ grainMost) ⌝ }
+    ensures counted { λ r. ⌜ r ≡ count (subtree grain (stripsOf shape) d k) ⌝ }
+{
+    let p = strips::piece_of(shape, d, k, grain);
+    let short = p.short;
+    if short {
+        return 1;
+    }
+    if d == DEEPEST {
+        return 0;
+    }
+    let l = nodes_of(shape, d + 1, 2 * k, grain);
+    if l == 0 {
+        return 0;
+    }
+    let r = nodes_of(shape, d + 1, 2 * k + 1, grain);
+    if r == 0 {
+        return 0;
+    }
+    1 + l + r
+}
+
+// ---- built, in preorder, into a lent part of the store
+
+// Writes the piece's subtree at the front of s, and returns its nodes. A node's own numbers come last: only then are they counted.
+pub fn build(s: &mut [i32], shape: Shape, d: usize, k: usize, grain: i64) -> usize
+    requires sizes { ⌜ ShapeSized shape × (natAbs grain ≤ grainMost) ⌝ }
+    requires ready { ⌜ Walkable grain (stripsOf shape) d k (length (now s)) ⌝ }
+    ensures nodes { λ r. ⌜ r ≡ size (subtree grain (stripsOf shape) d k) ⌝ }
+    ensures written { λ _. ⌜ now (s .exit) ≡ flatten (subtree grain (stripsOf shape) d k) ++ drop (width * size (subtree grain (stripsOf shape) d k)) (now (s .entry)) ⌝ }
+{
+    let p = strips::piece_of(shape, d, k, grain);
+    let x = p.x;
+    let y = p.y;
+    let short = p.short;
+    if short {
+        nodes::put(s, x, y, 1);
+        return 1;
+    }
+    let l = build(&mut s[WIDTH..], shape, d + 1, 2 * k, grain);
+    let mid = WIDTH + WIDTH * l;
+    let r = build(&mut s[mid..], shape, d + 1, 2 * k + 1, grain);
+    let nodes = 1 + l + r;
+    nodes::put(s, x, y, nodes);
+    nodes
+}
+
+// ---- compared with a store, number by number as the tree is walked, up to the first difference
 
 // is number i of s other than v
 fn differs(s: &[i32], i: usize, v: i64) -> bool

@@ -11,10 +11,10 @@ use Rattle.integers.specs.Signed.{held, back}
 use Rattle.model.specs.Strips.{Side}
 use Rattle.nodes.specs.Places.{centrePlace, axisPlace, boxPlace, sideIn, side-eq}
 use Rattle.nodes.specs.Structs.{side}
-use Rattle.checking.specs.Comparisons.{Unless, unless-true, unless-false, unless-last}
+use Rattle.strip_trees.specs.Comparisons.{Unless, unless-true, unless-false, unless-last}
 use borrow.Author.Needs.{needs}
-use Rattle.checking.proofs.differs_side.Statement.{statement}
-use Rattle.checking.proofs.differs_side.Tie as tie
+use Rattle.strip_trees.proofs.differs_side.Statement.{statement}
+use Rattle.strip_trees.proofs.differs_side.Tie as tie
 
 -- a comparison with a field, which is handed over as its bits
 plain : {B : ℕ} (b : Bool) (a v : ℤ) → natAbs v ≤ B → T (ltb B (2 ^ 63)) → Unless b (a ≡ toZ w64 (ofZ w64 v)) → Unless b (a ≡ v)

@@ -11,12 +11,12 @@ use Rattle.strips.specs.Structs.{stripsOf}
 use Prim.Native.Nat.{ℕ, _≤_, _<_}
 use borrow.Fn.Kinds.{In}
 use borrow.Fn.PlainCycle.{Measures, is, falls, and}
-use Rattle.counting.proofs.nodes_of.Reads as nodes-of
-use Rattle.counting.proofs.nodes_of.Kinds as nodes-of-kinds
-use Rattle.counting.proofs.+nodes_of.Lts-nodes_of as nodes-of-lts
+use Rattle.strip_trees.proofs.nodes_of.Reads as nodes-of
+use Rattle.strip_trees.proofs.nodes_of.Kinds as nodes-of-kinds
+use Rattle.strip_trees.proofs.+nodes_of.Lts-nodes_of as nodes-of-lts
 use Rattle.strips.proofs.piece_of.Reads as piece-of-reads
-use Rattle.counting.proofs.+nodes_of.{statement}
-use Rattle.counting.proofs.+nodes_of.Tie.{close}
+use Rattle.strip_trees.proofs.+nodes_of.{statement}
+use Rattle.strip_trees.proofs.+nodes_of.Tie.{close}
 
 abbrev μ-nodes-of : Measures 0 nodes-of-kinds.ps ℕ
 μ-nodes-of κs a = deepest - a .1 .0

@@ -1,0 +1,3 @@
+-- Laws that the three walks need.
+pub mod Halves
+pub mod Found
