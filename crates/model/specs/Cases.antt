@@ -1,46 +1,70 @@
 -- RULES, "Cases": the table of refusals row by row, each case said by itself and in no order. That an entry
 -- gives the lowest number that applies is a promise on these cases. Assumes nothing.
 use mathlib.Core.Path.{_≡_}
-use mathlib.Core.Bool.{true, false}
+use mathlib.Core.Bool.{false}
 use mathlib.Core.List.{List, _++_}
 use mathlib.Core.Logic.{_⊎_}
-use Prim.Native.Nat.{ℕ, _*_, _≤_, _<_}
-use lib.IntN.{ℤ, pos, _-ℤ_}
+use Prim.Native.Nat.{ℕ, zero, suc, _*_, _/_, _≤_, _<_}
+use lib.IntN.{ℤ, pos, negsuc, _-ℤ_}
 use lib.Signed.{_<ℤ_}
-use lib.ListN.{length}
+use lib.ListN.{length, getD}
 use Rattle.model.specs.declared.Job.{Job}
 use Rattle.model.specs.Refusals.{Refusal, number, form, edges, range, cell, long, store, space, stranger}
-use Rattle.model.specs.Jobs.{coordinate, ranged}
-use Rattle.model.specs.Layouts.{Lines}
-use Rattle.model.specs.Sheets.{lines, broken, jobOf, sheetOf, readSheet}
-use Rattle.model.specs.Trees.{anyLong}
-use Rattle.model.specs.Store.{width, forest, nodesOf, storeOf}
+use Rattle.model.specs.Jobs.{Edge, edgeAt}
+use Rattle.model.specs.Layouts.{Lines, FitsAll, writeAll}
+use Rattle.model.specs.Sheets.{longest, layout, jobOf, sheetOf}
+use Rattle.model.specs.Strips.{strip, short}
+use Rattle.model.specs.Store.{width, nodesOf, storeOf}
 use Rattle.model.specs.Plates.{cellsOf}
 
 -- ---- the rows
+-- a sheet is the text of lines that fit the layout, and it is not too long: no reader comes into it
+pub record Formed (sheet : List ℕ) (gs : List Lines) : Type 0 where
+  pub fits : FitsAll layout gs
+  pub text : sheet ≡ writeAll layout gs
+  pub bounded : length sheet ≤ longest
+
 -- 1: these bytes are no sheet
 abbrev pub FormCase : List ℕ → Type 0
-FormCase sheet = readSheet sheet ≡ broken
+FormCase sheet = (gs : List Lines) → Formed sheet gs → ⊥
 
 -- 2: no edge, or more than 64
 abbrev pub EdgesCase : Job → Type 0
 EdgesCase j = (j .count < 1) ⊎ (64 < j .count)
 
--- 3: some number of the job lies outside its range, or a number stands past its edges
+-- 3: a number of the job lies outside its range. Of its 512 numbers, those of its edges are coordinates, and those past them are 0
+abbrev pub Outside : ℤ → ℤ → ℤ → Type 0
+Outside lo hi z = (z <ℤ lo) ⊎ (hi <ℤ z)
+
+abbrev pub Strays : ℤ → Type 0
+Strays z = Outside (negsuc 999999) (pos 1000000) z
+
+abbrev pub PlaceCase : ℕ → List ℤ → ℕ → Type 0
+PlaceCase n vs i = ((i < n) × Strays (getD vs i (pos 0))) ⊎ ((n ≤ i) × (getD vs i (pos 0) ≡ pos 0 → ⊥))
+
 abbrev pub RangeCase : Job → Type 0
-RangeCase j = ranged j ≡ false
+RangeCase j =
+    Strays (j .x) ⊎ (Strays (j .y) ⊎ (Outside (pos 0) (pos 20) (j .n) ⊎ (Outside (pos 0) (pos 20) (j .m)
+    ⊎ (Outside (pos 1) (pos 1000000) (j .reach) ⊎ (Outside (pos 1) (pos 100000) (j .grain) ⊎ ((i : ℕ) × PlaceCase (8 * j .count) (j .places) i))))))
 
 -- 3, of an asked point
 abbrev pub SpotCase : ℤ → ℤ → Type 0
-SpotCase x y = (coordinate x ≡ false) ⊎ (coordinate y ≡ false)
+SpotCase x y = Strays x ⊎ Strays y
 
 -- 4: the smallest cell is larger than the plate, or there are more than 2^8 of them a side
 abbrev pub CellCase : Job → Type 0
 CellCase j = (j .n <ℤ j .m) ⊎ (pos 8 <ℤ (j .n -ℤ j .m))
 
--- 5: a tree has an end that is not short
+-- 5: of some edge a piece of depth 10 is reached and is not short. Piece k of a depth comes from piece k/2 of the depth before it
+unfoldable pub Reached : ℤ → Edge → ℕ → ℕ → Type 0
+Reached T e zero k = k ≡ 0
+Reached T e (suc d) k = Reached T e d (k / 2) × (short T (strip e d (k / 2)) ≡ false)
+
+abbrev pub LongPiece : ℤ → Edge → ℕ → Type 0
+LongPiece T e k = Reached T e 10 k × (short T (strip e 10 k) ≡ false)
+
 abbrev pub LongCase : Job → Type 0
-LongCase j = anyLong (forest j) ≡ true
+LongCase j = (i : ℕ) × (i < j .count) × ((k : ℕ) × LongPiece (j .grain) (edgeAt (j .places) i) k)
 
 -- 6: the trees have more numbers than the store
 abbrev pub StoreCase : Job → List ℤ → Type 0
@@ -55,9 +79,9 @@ abbrev pub StrangerCase : Job → List ℤ → Type 0
 StrangerCase j lent = (rest : List ℤ) → lent ≡ storeOf j ++ rest → ⊥
 
 -- ---- which refusals an entry can give, and each one's case there
--- a sheet states a job where its form is right
+-- a sheet states the job of its lines
 abbrev pub States : List ℕ → Job → Type 0
-States sheet j = (gs : List Lines) × (readSheet sheet ≡ lines gs) × (jobOf gs ≡ j)
+States sheet j = (gs : List Lines) × Formed sheet gs × (jobOf gs ≡ j)
 
 abbrev pub ReadApplies : List ℕ → Refusal → Type 0
 ReadApplies sheet form = FormCase sheet

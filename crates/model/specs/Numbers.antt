@@ -2,9 +2,9 @@
 -- Assumes nothing.
 use mathlib.Core.Bool.{true, false, _&&_, not}
 use mathlib.Core.List.{List, [], _∷_, _++_}
-use Prim.Native.Nat.{ℕ, zero, suc, _+_, _*_, _-_, _/_, _%_}
+use Prim.Native.Nat.{ℕ, zero, suc, _+_, _*_, _-_, _/_, _%_, _<_}
 use lib.Dec.{ltb, eqb}
-use lib.IntN.{ℤ, pos, negsuc, negℤ}
+use lib.IntN.{ℤ, pos, negsuc, natAbs, negℤ}
 use Rattle.model.specs.Bytes.{Got, got, none, given, digit}
 
 -- ---- written: n in at most k decimal digits
@@ -15,6 +15,10 @@ decimal (suc k) n = elim (ltb n 10) [ true ↦ (48 + n) ∷ [] | false ↦ decim
 unfoldable pub text : ℤ → List ℕ
 text (pos n) = decimal 7 n
 text (negsuc n) = 45 ∷ decimal 7 (suc n)
+
+-- the numbers that have a text: seven digits hold them
+unfoldable pub Small : ℤ → Type 0
+Small z = natAbs z < 10000000
 
 -- ---- read: at most k more digits after the number a
 unfoldable pub moreDigits : ℕ → ℕ → List ℕ → Got ℕ

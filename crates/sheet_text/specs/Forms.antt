@@ -12,15 +12,13 @@ use borrow.Author.Tests.{eqb-true, eq-eqb}
 use Rattle.model.specs.Bytes.{Got, got, none, given, digit}
 use Rattle.model.specs.Numbers.{text, number}
 use Rattle.model.specs.Forms.{writeForm, byte, readForm}
+unfoldable pub use Rattle.model.specs.Forms.{marks}
+unfoldable pub use Rattle.model.specs.Layouts.{AllSmall}
 use Rattle.integers.specs.Tests.{both}
 use Rattle.sheet_text.specs.Tests.{no-way, yes, no}
 use Rattle.sheet_text.specs.Numbers.{Small, number-text, text-number, text-long}
 
--- ---- how many numbers a form has, how many bytes its text has at most, and that it is sound
-unfoldable pub marks : List ℕ → ℕ
-marks [] = 0
-marks (f ∷ fs) = cond (eqb f 35) (suc (marks fs)) (marks fs)
-
+-- ---- how many bytes the text of a form has at most, and that it is sound
 unfoldable pub weight : List ℕ → ℕ
 weight [] = 0
 weight (f ∷ fs) = cond (eqb f 35) 8 1 + weight fs
@@ -32,9 +30,6 @@ ends (b ∷ fs) = not (digit b) && not (eqb b 35)
 unfoldable pub sound : List ℕ → Bool
 sound [] = true
 sound (f ∷ fs) = cond (eqb f 35) (ends fs) true && sound fs
-
-unfoldable pub AllSmall : List ℤ → Type 0
-AllSmall vs = (i : ℕ) → Small (getD vs i (pos 0))
 
 pub nil-small : AllSmall []
 unfolding AllSmall Small

@@ -5,6 +5,7 @@ pub mod Forms
 pub mod Layouts
 pub mod Letters
 pub mod Sheets
+pub mod Lowest
 pub mod Optional
 pub mod Jobs
 pub mod Places

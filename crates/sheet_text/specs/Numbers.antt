@@ -11,12 +11,9 @@ use lib.ListN.{length, length-append}
 use borrow.Author.Tests.{ltb-true, ltb-false, leb-true, lt-ltb, le-ltb, le-leb, eqb-true, eqb-false, ne-eqb}
 use Rattle.model.specs.Bytes.{Got, got, none, given, digit}
 use Rattle.model.specs.Numbers.{decimal, text, moreDigits, natural, number}
+unfoldable pub use Rattle.model.specs.Numbers.{Small}
 use Rattle.integers.specs.Tests.{both}
 use Rattle.sheet_text.specs.Tests.{no-way, yes, no}
-
--- seven digits hold it
-unfoldable pub Small : ℤ → Type 0
-Small z = natAbs z < 10000000
 
 -- ---- digits
 module _ (d : ℕ) where

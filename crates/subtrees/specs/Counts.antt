@@ -1,8 +1,9 @@
 -- The nodes of a tree, or 0 where it is long: no tree has 0 nodes, so one number says both. Assumes nothing.
 use mathlib.Core.Path.{_≡_, refl}
-use mathlib.Core.Bool.{Bool, true, false, cond, _||_}
+use mathlib.Core.Bool.{Bool, true, false, cond}
 use Prim.Native.Nat.{ℕ, _+_, _≤_}
 use native.Mathlib.Omega.{arith}
+use Rattle.integers.specs.Tests.{or-yes}
 use Rattle.model.specs.Strips.{Strip}
 use Rattle.model.specs.Trees.{Tree, node, isLong}
 use Rattle.model.specs.Store.{size}
@@ -28,12 +29,8 @@ lost t e = none (isLong t) (size t) (size-pos t) e
 pub count-left : (s : Strip) (l r : Tree) → count l ≡ 0 → count (node s l r) ≡ 0
 count-left s l r e = rw (lost l e)
 
-or-true : (a : Bool) → (a || true) ≡ true
-or-true true = refl
-or-true false = refl
-
 pub count-right : (s : Strip) (l r : Tree) → count r ≡ 0 → count (node s l r) ≡ 0
-count-right s l r e = rw (lost r e, or-true (isLong l))
+count-right s l r e = rw (lost r e, or-yes (isLong l))
 
 pub count-both : (s : Strip) (l r : Tree) → (count l ≡ 0 → ⊥) → (count r ≡ 0 → ⊥) → count (node s l r) ≡ 1 + count l + count r
 count-both s l r h k = let a = kept l h in let b = kept r k in rw (a .0, b .0) (omega arith)

@@ -1,0 +1,250 @@
+-- RULES, "Cases": each check fails in its row's case and in no other. Assumes nothing.
+use mathlib.Core.Path.{_≡_, refl, sym, ap, _∙_, subst}
+use mathlib.Core.Bool.{Bool, true, false, not, _&&_, _||_}
+use mathlib.Core.List.{List, [], _∷_}
+use mathlib.Core.Logic.{_⊎_, inl, inr}
+use Prim.Native.Nat.{ℕ, zero, suc, _+_, _*_, _/_, _≤_, _<_}
+use native.Mathlib.Numerals.{add-one}
+use native.Mathlib.Omega.{arith}
+use lib.Dec.{T, leb, lt→ltb, eqb}
+use lib.IntN.{ℤ, pos, negsuc, _-ℤ_}
+use lib.ListN.{length, getD, drop}
+use lib.Signed.{_<ℤ_, leZ, ltZ, ltZ-yes, clashℤ}
+use borrow.Author.Tests.{lt-leb, leb-false, eqb-true, eqb-false}
+use Rattle.integers.specs.Tests.{le-true, or-true, or-yes}
+use Rattle.model.specs.declared.Job.{Job}
+use Rattle.model.specs.Jobs.{Edge, between, coordinate, isZero, placed, counted, ranged, celled, edgeAt, edgesFrom, outline}
+use Rattle.model.specs.Strips.{strip, short}
+use Rattle.model.specs.Trees.{Tree, leaf, long, node, pieces, tree, trees, isLong, anyLong}
+use Rattle.model.specs.Store.{forest, storeOf, begins}
+use Rattle.model.specs.Cases.{EdgesCase, Outside, Strays, PlaceCase, RangeCase, SpotCase, CellCase, Reached, LongPiece, LongCase, StrangerCase}
+use Rattle.ranges.specs.Equal.{begins-is, begins-self}
+
+-- ---- tests that fail
+-- a test fails just where something holds
+abbrev pub Just : Bool → Type 0 → Type 0
+Just b P = (b ≡ false → P) × (P → b ≡ false)
+
+pub either : (a b : Bool) (P Q : Type 0) → Just a P → Just b Q → Just (a && b) (P ⊎ Q)
+either true b P Q p q = ((λ e. inr (q .0 e)), by)
+  where
+    by : P ⊎ Q → b ≡ false
+    by (inl h) = absurd (subst T (p .1 h) tt)
+    by (inr h) = q .1 h
+either false b P Q p q = ((λ e. inl (p .0 refl)), (λ h. refl))
+
+pub less : (m n : ℕ) → Just (leb m n) (n < m)
+less m n = (leb-false m n, lt-leb m n)
+
+less-ℤ : (y z : ℤ) → Just (leZ y z) (z <ℤ y)
+less-ℤ y z = ((λ e. ltZ-yes (other y z e)), (λ h. go h (leZ y z) refl))
+  where
+    other : (y z : ℤ) → leZ y z ≡ false → T (ltZ z y)
+    other (pos a) (pos b) e = lt→ltb b a (leb-false a b e)
+    other (pos a) (negsuc b) e = tt
+    other (negsuc a) (pos b) e = subst T e tt
+    other (negsuc a) (negsuc b) e = lt→ltb a b (leb-false b a e)
+
+    go : z <ℤ y → (t : Bool) → leZ y z ≡ t → t ≡ false
+    go h true e = clashℤ h (le-true e)
+    go h false e = refl
+
+as-well : (b : Bool) (P Q : Type 0) → Just b P → (P → Q) → (Q → P) → Just b Q
+as-well b P Q p f g = ((λ e. f (p .0 e)), (λ h. p .1 (g h)))
+
+-- a test that is the denial of another fails just where something holds, if the other passes just there
+denied : (b : Bool) (P : Type 0) → (b ≡ true → P) → (P → b ≡ true) → Just (not b) P
+denied true P f g = ((λ e. f refl), (λ h. refl))
+denied false P f g = ((λ e. absurd (subst T e tt)), (λ h. sym (g h)))
+
+-- ---- 2 and 4
+pub edges-row : (j : Job) → Just (counted j) (EdgesCase j)
+unfolding counted
+edges-row j = either (leb 1 (j .count)) (leb (j .count) 64) (j .count < 1) (64 < j .count) (less 1 (j .count)) (less (j .count) 64)
+
+pub cell-row : (j : Job) → Just (celled j) (CellCase j)
+unfolding celled
+cell-row j = either (leZ (j .m) (j .n)) (leZ (j .n -ℤ j .m) (pos 8)) _ _ (less-ℤ (j .m) (j .n)) (less-ℤ (j .n -ℤ j .m) (pos 8))
+
+-- ---- 3
+between-row : (lo hi z : ℤ) → Just (between lo hi z) (Outside lo hi z)
+unfolding between
+between-row lo hi z = either (leZ lo z) (leZ z hi) _ _ (less-ℤ lo z) (less-ℤ z hi)
+
+coordinate-row : (z : ℤ) → Just (coordinate z) (Strays z)
+unfolding coordinate
+coordinate-row z = between-row (negsuc 999999) (pos 1000000) z
+
+zero-row : (z : ℤ) → Just (isZero z) (z ≡ pos 0 → ⊥)
+unfolding isZero
+zero-row (pos n) = ((λ e h. eqb-false n 0 e (cc)), (λ h. go (eqb n 0) refl h))
+  where
+    go : (t : Bool) → eqb n 0 ≡ t → (pos n ≡ pos 0 → ⊥) → t ≡ false
+    go true e h = absurd (h (ap pos (eqb-true n 0 e)))
+    go false e h = refl
+zero-row (negsuc n) = ((λ e h. absurd (subst T (sym (ap isZero h)) tt)), (λ h. refl))
+
+-- the first number, or one after it
+abbrev Strewn : ℕ → List ℤ → Type 0
+Strewn n vs = (i : ℕ) × PlaceCase n vs i
+
+none-strewn : (n i : ℕ) → PlaceCase n [] i → ⊥
+none-strewn n i (inl h) = absurd (subst T (coordinate-row (pos 0) .1 (h .1)) (unfold coordinate between in tt))
+none-strewn n i (inr h) = h .1 refl
+
+placed-row : (n : ℕ) (vs : List ℤ) → Just (placed n vs) (Strewn n vs)
+unfolding placed
+placed-row n [] = ((λ e. absurd (subst T e tt)), (λ h. absurd (none-strewn n (h .0) (h .1))))
+placed-row zero (v ∷ vs) = as-well (isZero v && placed 0 vs) _ _ (either (isZero v) (placed 0 vs) _ _ (zero-row v) (placed-row 0 vs)) to from
+  where
+    to : (v ≡ pos 0 → ⊥) ⊎ Strewn 0 vs → Strewn 0 (v ∷ vs)
+    to (inl h) = (0, inr (omega arith, h))
+    to (inr (i, inl h)) = absurd (omega (arith, h .0))
+    to (inr (i, inr h)) = (suc i, inr (omega arith, h .1))
+
+    from : Strewn 0 (v ∷ vs) → (v ≡ pos 0 → ⊥) ⊎ Strewn 0 vs
+    from (i, inl h) = absurd (omega (arith, h .0))
+    from (zero, inr h) = inl (h .1)
+    from (suc i, inr h) = inr (i, inr (omega arith, h .1))
+placed-row (suc n) (v ∷ vs) = as-well (coordinate v && placed n vs) _ _ (either (coordinate v) (placed n vs) _ _ (coordinate-row v) (placed-row n vs)) to from
+  where
+    to : Strays v ⊎ Strewn n vs → Strewn (suc n) (v ∷ vs)
+    to (inl h) = (0, inl (omega arith, h))
+    to (inr (i, inl h)) = (suc i, inl (omega (arith, h .0), h .1))
+    to (inr (i, inr h)) = (suc i, inr (omega (arith, h .0), h .1))
+
+    from : Strewn (suc n) (v ∷ vs) → Strays v ⊎ Strewn n vs
+    from (zero, inl h) = inl (h .1)
+    from (zero, inr h) = absurd (omega (arith, h .0))
+    from (suc i, inl h) = inr (i, inl (omega (arith, h .0), h .1))
+    from (suc i, inr h) = inr (i, inr (omega (arith, h .0), h .1))
+
+pub range-row : (j : Job) → Just (ranged j) (RangeCase j)
+unfolding ranged
+range-row j =
+    either _ _ _ _ (coordinate-row (j .x))
+    (either _ _ _ _ (coordinate-row (j .y))
+    (either _ _ _ _ (between-row (pos 0) (pos 20) (j .n))
+    (either _ _ _ _ (between-row (pos 0) (pos 20) (j .m))
+    (either _ _ _ _ (between-row (pos 1) (pos 1000000) (j .reach))
+    (either _ _ _ _ (between-row (pos 1) (pos 100000) (j .grain)) (placed-row (8 * j .count) (j .places)))))))
+
+pub spot-row : (x y : ℤ) → Just (coordinate x && coordinate y) (SpotCase x y)
+spot-row x y = either (coordinate x) (coordinate y) _ _ (coordinate-row x) (coordinate-row y)
+
+or-else : {A B C : Type 0} → (A → C) → (B → C) → A ⊎ B → C
+or-else f g (inl a) = f a
+or-else f g (inr b) = g b
+
+-- ---- 5: a long end is a piece that is reached and not short, found by going down from the whole edge and up again
+module _ (G : ℤ) (e : Edge) where
+  abbrev End : ℕ → Type 0
+  End d = (k : ℕ) × (Reached G e d k × (short G (strip e d k) ≡ false))
+
+  abbrev Long : ℕ → ℕ → ℕ → Type 0
+  Long left d k = isLong (pieces G (strip e) left d k) ≡ true
+
+  -- piece i of the next depth, where it comes from piece k of this one
+  next : (d k i : ℕ) → i / 2 ≡ k → Reached G e d k → short G (strip e d k) ≡ false → Reached G e (d + 1) i
+  unfolding Reached
+  next d k i w r p = subst (λ n. Reached G e n i) (sym (add-one d)) (subst (λ u. Reached G e d u × (short G (strip e d u) ≡ false)) (sym w) (r, p))
+
+  down : (D left d k : ℕ) → left + d ≡ D → Reached G e d k → Long left d k → End D
+  unfolding pieces
+  down D zero d k q r h = subst End (let z : d ≡ D = omega arith in z) (go (short G (strip e d k)) refl h)
+    where
+      go : (t : Bool) → short G (strip e d k) ≡ t → isLong (elim t [ true ↦ leaf (strip e d k) | false ↦ long (strip e d k) ]) ≡ true → End d
+      go true p h = absurd (subst T (sym h) tt)
+      go false p h = (k, (r, p))
+  down D (suc left) d k q r h = go (short G (strip e d k)) refl h
+      (λ p. down D left (d + 1) (2 * k) (omega arith) (next d k (2 * k) (omega arith) r p))
+      (λ p. down D left (d + 1) (2 * k + 1) (omega arith) (next d k (2 * k + 1) (omega arith) r p))
+    where
+      go : (t : Bool) → short G (strip e d k) ≡ t → isLong (elim t [ true ↦ leaf (strip e d k) | false ↦ node (strip e d k) (pieces G (strip e) left (d + 1) (2 * k)) (pieces G (strip e) left (d + 1) (2 * k + 1)) ]) ≡ true
+          → (short G (strip e d k) ≡ false → Long left (d + 1) (2 * k) → End D) → (short G (strip e d k) ≡ false → Long left (d + 1) (2 * k + 1) → End D) → End D
+      go true p h l r = absurd (subst T (sym h) tt)
+      go false p h l r = or-else (l p) (r p) (or-true (isLong (pieces G (strip e) left (d + 1) (2 * k))) (isLong (pieces G (strip e) left (d + 1) (2 * k + 1))) h)
+
+  -- a piece that is not short is long where one of its halves is
+  whole-long : (left d k i : ℕ) → i / 2 ≡ k → short G (strip e d k) ≡ false → Long left (d + 1) i → Long (suc left) d k
+  unfolding pieces
+  whole-long left d k i w p h = go (short G (strip e d k)) p
+    where
+      side : (n : ℕ) → i ≡ n → Long left (d + 1) n
+      side n q = subst (Long left (d + 1)) q h
+
+      half : (b : Bool) → eqb i (2 * k) ≡ b → (isLong (pieces G (strip e) left (d + 1) (2 * k)) || isLong (pieces G (strip e) left (d + 1) (2 * k + 1))) ≡ true
+      half true q = rw (side (2 * k) (eqb-true i (2 * k) q))
+      half false q = let z = eqb-false i (2 * k) q in rw (side (2 * k + 1) (odd z), or-yes (isLong (pieces G (strip e) left (d + 1) (2 * k))))
+        where
+          odd : (i ≡ 2 * k → ⊥) → i ≡ 2 * k + 1
+          odd z = omega (arith, w)
+
+      go : (t : Bool) → t ≡ false → isLong (elim t [ true ↦ leaf (strip e d k) | false ↦ node (strip e d k) (pieces G (strip e) left (d + 1) (2 * k)) (pieces G (strip e) left (d + 1) (2 * k + 1)) ]) ≡ true
+      go true p = absurd (subst T p tt)
+      go false p = half (eqb i (2 * k)) refl
+
+  up : (D left d k : ℕ) → left + d ≡ D → Reached G e d k → Long left d k → Long D 0 0
+  unfolding Reached
+  up D left zero k q r h = subst (λ n. Long n 0 0) (let z : left ≡ D = omega arith in z) (subst (Long left 0) r h)
+  up D left (suc d) k q r h = up D (suc left) d (k / 2) (omega arith) (r .0) (whole-long left d (k / 2) k refl (r .1) (subst (λ n. Long left n k) (sym (add-one d)) h))
+
+  -- the last piece by itself
+  end-long : (d k : ℕ) → short G (strip e d k) ≡ false → Long 0 d k
+  unfolding pieces
+  end-long d k p = go (short G (strip e d k)) p
+    where
+      go : (t : Bool) → t ≡ false → isLong (elim t [ true ↦ leaf (strip e d k) | false ↦ long (strip e d k) ]) ≡ true
+      go true p = absurd (subst T p tt)
+      go false p = refl
+
+  tree-long : isLong (tree G e) ≡ true → (k : ℕ) × LongPiece G e k
+  unfolding tree
+  tree-long h = down 10 10 0 0 (omega arith) (unfold Reached in refl) h
+
+  long-tree : (k : ℕ) → LongPiece G e k → isLong (tree G e) ≡ true
+  unfolding tree
+  long-tree k (r, p) = up 10 0 10 k (omega arith) r (end-long 10 k p)
+
+-- of several edges
+abbrev SomePiece : ℤ → List ℤ → ℕ → Type 0
+SomePiece G vs i = (k : ℕ) × LongPiece G (edgeAt vs i) k
+
+abbrev SomeLong : ℤ → List ℤ → ℕ → ℕ → Type 0
+SomeLong G vs n a = (i : ℕ) × (i < n) × SomePiece G vs (a + i)
+
+any-long : (G : ℤ) (vs : List ℤ) (n a : ℕ) → anyLong (trees G (edgesFrom vs n a)) ≡ true → SomeLong G vs n a
+unfolding edgesFrom
+any-long G vs zero a h = absurd (subst T (sym h) tt)
+any-long G vs (suc n) a h = go (or-true (isLong (tree G (edgeAt vs a))) (anyLong (trees G (edgesFrom vs n (a + 1)))) h) (any-long G vs n (a + 1))
+  where
+    go : (isLong (tree G (edgeAt vs a)) ≡ true) ⊎ (anyLong (trees G (edgesFrom vs n (a + 1))) ≡ true) → (anyLong (trees G (edgesFrom vs n (a + 1))) ≡ true → SomeLong G vs n (a + 1)) → SomeLong G vs (suc n) a
+    go (inl h) ih = (0, omega arith, subst (SomePiece G vs) (let z : a ≡ a + 0 = omega arith in z) (tree-long G (edgeAt vs a) h))
+    go (inr h) ih = let r = ih h in (suc (r .0), omega (arith, r .1), subst (SomePiece G vs) (let z : (a + 1) + r .0 ≡ a + suc (r .0) = omega arith in z) (r .2))
+
+long-any : (G : ℤ) (vs : List ℤ) (n a i : ℕ) → i < n → SomePiece G vs (a + i) → anyLong (trees G (edgesFrom vs n a)) ≡ true
+unfolding edgesFrom
+long-any G vs zero a i l p = absurd (omega arith)
+long-any G vs (suc n) a zero l p = let q = subst (SomePiece G vs) (let z : a + 0 ≡ a = omega arith in z) p in rw (long-tree G (edgeAt vs a) (q .0) (q .1))
+long-any G vs (suc n) a (suc i) l p = rw (long-any G vs n (a + 1) i (omega arith) (subst (SomePiece G vs) (let z : a + suc i ≡ (a + 1) + i = omega arith in z) p), or-yes (isLong (tree G (edgeAt vs a))))
+
+pub long-row : (j : Job) → Just (not (anyLong (forest j))) (LongCase j)
+unfolding forest outline
+long-row j = denied (anyLong (forest j)) (LongCase j) some each
+  where
+    from : (i : ℕ) → 0 + i ≡ i
+    from i = omega arith
+
+    some : anyLong (forest j) ≡ true → LongCase j
+    some h = let r = any-long (j .grain) (j .places) (j .count) 0 h in (r .0, r .1, subst (SomePiece (j .grain) (j .places)) (from (r .0)) (r .2))
+
+    each : LongCase j → anyLong (forest j) ≡ true
+    each (i, l, p) = long-any (j .grain) (j .places) (j .count) 0 i l (subst (SomePiece (j .grain) (j .places)) (sym (from i)) p)
+
+-- ---- 8
+pub stranger-row : (j : Job) (lent : List ℤ) → Just (begins lent (storeOf j)) (StrangerCase j lent)
+stranger-row j lent = ((λ e rest h. subst T (sym (begins-self (storeOf j) rest) ∙ ap (λ s. begins s (storeOf j)) (sym h) ∙ e) tt), (λ h. go h (begins lent (storeOf j)) refl))
+  where
+    go : StrangerCase j lent → (t : Bool) → begins lent (storeOf j) ≡ t → t ≡ false
+    go h true e = absurd (h (drop (length (storeOf j)) lent) (begins-is lent (storeOf j) e))
+    go h false e = refl
