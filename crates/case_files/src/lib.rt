@@ -1,7 +1,7 @@
 // What the programs that run stored cases share: a case is an argument, the name of a file that holds a sheet.
-use answering::Input;
 use libc::STDOUT_FILENO;
 use model::Read;
+use streams::Input;
 ghost use mathlib.Core.Path.{_≡_};
 ghost use mathlib.Core.List.{[], _∷_};
 ghost use Prim.Native.Nat.{min};
@@ -37,7 +37,7 @@ pub fn read_case(i: usize, sheet: &mut [u8]) -> Input
     ensures count { λ r. ⌜ Counts (r .count) (now (sheet .exit)) ⌝ }
 {
     let fd = open_case(i);
-    let input = answering::read_input(fd, sheet);
+    let input = streams::read_input(fd, sheet);
     libc::close(fd);
     input
 }

@@ -1,7 +1,6 @@
-// The program: a job sheet from standard input, its clearance map or its refusal to standard output. No contract stands on `main`, so that it
-// has nothing of its own.
-use libc::STDIN_FILENO;
+// The program: a job sheet from standard input, descriptor 0, its clearance map or its refusal to standard output. No contract stands on `main`,
+// so that it has nothing of its own, and its crate names nothing that reads or writes.
 
 fn main() {
-    answering::answer(STDIN_FILENO);
+    answering::answer(0);
 }

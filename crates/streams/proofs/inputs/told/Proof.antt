@@ -1,0 +1,28 @@
+use mathlib.Core.Path.{ap, _∙_}
+use Prim.Native.Nat.{_+_}
+use lib.Dec.{eqb}
+use lib.IntN.{pos}
+use lib.Signed.{ltZ}
+use lib.ListN.{length}
+use mir.Syntax.{w64}
+use mir.ValLaws.{toZ-ofZ}
+use Rattle.io.specs.Counts.{clamped}
+use borrow.Author.Needs.{needs}
+use Rattle.streams.proofs.inputs.told.Statement.{statement}
+use Rattle.streams.proofs.inputs.told.Tie as tie
+
+count-requires : tie.Need-count-requires
+count-requires c κs = search needs
+
+add-t5 : tie.Need-add-t5
+add-t5 c = search needs
+
+returns : tie.Need-returns
+returns c =
+    let a = c .before .before .args in
+    let z = toZ-ofZ w64 (a .got) (c .before .before .fits .got) in
+    let e = c .count .ensures .1 ∙ ap (λ v. clamped v (length (a .part .now))) z in
+    (ap (λ k. a .at + k) e, (ap (λ k. eqb k 0) e, ap (λ v. ltZ v (pos 0)) z))
+
+pub told-spec : {M : Type 1} → statement M
+told-spec = tie.close (tie.spec count-requires add-t5 returns)
