@@ -1,7 +1,6 @@
 // What the programs that run stored cases share: a case is an argument, the name of a file that holds a sheet.
 use libc::STDOUT_FILENO;
 use model::Read;
-use streams::Input;
 ghost use mathlib.Core.Path.{_≡_};
 ghost use mathlib.Core.List.{[], _∷_};
 ghost use Prim.Native.Nat.{min};
@@ -32,14 +31,23 @@ pub fn open_case(i: usize) -> i32 {
     fd
 }
 
+// How many bytes a case's sheet has, and whether reading it failed.
+pub struct Stored {
+    pub count: usize,
+    pub failed: bool,
+}
+
 // Prints the name of case i and reads its sheet to the front of `sheet`, as the program reads its input.
-pub fn read_case(i: usize, sheet: &mut [u8]) -> Input
+pub fn read_case(i: usize, sheet: &mut [u8]) -> Stored
     ensures count { λ r. ⌜ Counts (r .count) (now (sheet .exit)) ⌝ }
 {
     let fd = open_case(i);
     let input = streams::read_input(fd, sheet);
     libc::close(fd);
-    input
+    Stored {
+        count: streams::bytes_of(input),
+        failed: streams::has_failed(input),
+    }
 }
 
 // Shows the refusal that reading a sheet gives, and nothing else, and says how many bytes its line has.
