@@ -3,6 +3,7 @@
 mod map_text;
 
 use model::Job;
+use streams::Receipt;
 ghost use mathlib.Core.Path.{_≡_};
 ghost use mathlib.Core.List.{[], _∷_};
 ghost use Prim.Native.Nat.{_≤_};
@@ -56,15 +57,15 @@ fn put_front(held: &[u8], k: usize, out: &mut [u8]) -> usize
     put_printed(&held[..k], out)
 }
 
-// Reads an input to the memory lent, hands on its answer and says how many bytes it has. An input that could not be read to its end has none.
-fn show_input(fd: i32, held: &mut [u8]) -> usize
+// Reads an input to the memory lent and hands on its answer. An input that could not be read to its end has none, and that is told.
+fn show_input(fd: i32, held: &mut [u8]) -> Receipt
     requires space { ⌜ 8193 ≤ length (now held) ⌝ }
-    ensures answered { λ r. ⌜ Handed r ⌝ }
+    ensures answered { λ r. ⌜ Handed (r .bytes) ⌝ }
 {
     let input = streams::read_input(fd, held);
     let failed = streams::has_failed(input);
     if failed {
-        return streams::tell_unread();
+        return streams::tell_unread(held, input);
     }
     let k = streams::bytes_of(input);
     let mut out = [0u8; 67344];
@@ -72,18 +73,17 @@ fn show_input(fd: i32, held: &mut [u8]) -> usize
     streams::hand_on(&out[..end], held, input)
 }
 
-// The program: one byte more than a sheet may have is read, so that a longer one is told. Says how many bytes the answer has, 0 where none is
-// given.
-pub fn answer(fd: i32) -> usize
-    ensures answered { λ r. ⌜ Handed r ⌝ }
+// The program: one byte more than a sheet may have is read, so that a longer one is told.
+pub fn answer(fd: i32) -> Receipt
+    ensures answered { λ r. ⌜ Handed (r .bytes) ⌝ }
 {
     let mut held = [0u8; 8193];
     show_input(fd, &mut held)
 }
 
-// Hands a refusal's line to standard output, and says how many bytes it has.
-pub fn show_refusal(refusal: u8) -> usize
-    ensures bytes { λ r. ⌜ r ≡ length (writeForm refusedForm (pos refusal ∷ [])) ⌝ }
+// Hands a refusal's line to standard output.
+pub fn show_refusal(refusal: u8) -> Receipt
+    ensures bytes { λ r. ⌜ r .bytes ≡ length (writeForm refusedForm (pos refusal ∷ [])) ⌝ }
 {
     let mut out = [0u8; 19];
     let end = map_text::put_refusal(&mut out, 0, refusal as usize);

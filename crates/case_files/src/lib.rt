@@ -1,6 +1,7 @@
 // What the programs that run stored cases share: a case is an argument, the name of a file that holds a sheet.
 use libc::STDOUT_FILENO;
 use model::Read;
+use streams::Receipt;
 ghost use mathlib.Core.Path.{_≡_};
 ghost use mathlib.Core.List.{[], _∷_};
 ghost use Prim.Native.Nat.{min};
@@ -50,10 +51,10 @@ pub fn read_case(i: usize, sheet: &mut [u8]) -> Stored
     }
 }
 
-// Shows the refusal that reading a sheet gives, and nothing else, and says how many bytes its line has.
-pub fn show_refused(got: Read, sheet: &[u8]) -> usize
+// Shows the refusal that reading a sheet gives, and nothing else.
+pub fn show_refused(got: Read, sheet: &[u8]) -> Receipt
     requires answer { ⌜ got ≡ read (now sheet) ⌝ }
-    ensures bytes { λ r. ⌜ r ≡ length (writeForm refusedForm (pos (got .refusal) ∷ [])) ⌝ }
+    ensures bytes { λ r. ⌜ r .bytes ≡ length (writeForm refusedForm (pos (got .refusal) ∷ [])) ⌝ }
 {
     let refusal = got.refusal;
     answering::show_refusal(refusal)

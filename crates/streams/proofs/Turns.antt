@@ -15,7 +15,7 @@ use Rattle.sequences.specs.Parts.{tail-put}
 use Rattle.integers.specs.Tests.{both, negated}
 use Rattle.io.specs.Counts.{Counts, clamped}
 use Rattle.streams.specs.declared.inputs.Input.{Input}
-use Rattle.streams.specs.Reading.{Reply, given, piece, unread, after, goesOn, inTurn, pieces, ReadOn, Came}
+use Rattle.streams.specs.Reading.{Reply, given, piece, unread, after, goesOn, inTurn, pieces, Unbroken, ReadOn, Came}
 
 pub counts : (k : ℕ) (held : List ℕ) → k ≤ length held → Counts k held
 counts k held h = (h, sym (length-take-le k held h))
@@ -34,16 +34,17 @@ pub record So (held : List ℕ) (i : Input) : Type 0 where
   pub replies : List Reply
   pub in-turn : i ≡ inTurn replies
   pub bytes : take (i .count) held ≡ pieces replies
+  pub unbroken : Unbroken (length held) replies
   pub within : i .count ≤ length held
 
 pub at-first : (held : List ℕ) → So held unread
-at-first held = record { replies = []; in-turn = unfold inTurn in refl; bytes = unfold pieces in refl; within = omega arith }
+at-first held = record { replies = []; in-turn = unfold inTurn in refl; bytes = unfold pieces in refl; unbroken = unfold Unbroken in tt; within = omega arith }
 
 take-two : (xs ys : List ℕ) (n : ℕ) → take (length xs + n) (xs ++ ys) ≡ xs ++ take n ys
 take-two [] ys n = ap (λ k. take k ys) (let z : 0 + n ≡ n = omega arith in z)
 take-two (x ∷ xs) ys n = ap (λ k. take k (x ∷ (xs ++ ys))) (let z : length (x ∷ xs) + n ≡ suc (length xs + n) = omega arith in z) ∙ ap (λ l. x ∷ l) (take-two xs ys n)
 
-module _ (before now : List ℕ) (i r : Input) (s : So before i) (o : ReadOn before now i r) where
+module _ (before now : List ℕ) (i r : Input) (s : So before i) (o : ReadOn before now i r) (same : length now ≡ length before) (more : goesOn (length before) i ≡ true) where
   long : length (take (i .count) before) ≡ i .count
   long = length-take-le (i .count) before (s .within)
 
@@ -63,6 +64,7 @@ module _ (before now : List ℕ) (i r : Input) (s : So before i) (o : ReadOn bef
         ∙ take-two (take (i .count) before) (o .reply .lent) (given (o .reply))
         ∙ ap (λ l. l ++ piece (o .reply)) (s .bytes)
         ∙ (unfold pieces in refl);
+    unbroken = unfold Unbroken in rw same (sym (ap (goesOn (length before)) (s .in-turn)) ∙ more, s .unbroken);
     within = omega (arith, counted, behind, few (o .reply .got) (length (o .reply .lent)));
   }
 
@@ -94,8 +96,8 @@ unfolding left
 fewer before now i r s o l e = let h = open-count (length before) i e in go (r .ended) refl h
   where
     go : (b : Bool) → r .ended ≡ b → (i .ended ≡ false) × (i .count < length before) → (length now - r .count) + cond b 0 1 < (length before - i .count) + cond (i .ended) 0 1
-    go true q h = rw (h .0) (omega (arith, l, h .1, counted before now i r s o))
-    go false q h = let z = eqb-false (given (o .reply)) 0 (sym (ap (λ x. x .ended) (o .told)) ∙ q) in rw (h .0) (omega (arith, l, h .1, counted before now i r s o, turn before now i r s o .within, z))
+    go true q h = rw (h .0) (omega (arith, l, h .1, counted before now i r s o l e))
+    go false q h = let z = eqb-false (given (o .reply)) 0 (sym (ap (λ x. x .ended) (o .told)) ∙ q) in rw (h .0) (omega (arith, l, h .1, counted before now i r s o l e, turn before now i r s o l e .within, z))
 
 pub came : (held : List ℕ) (i : Input) → So held i → goesOn (length held) i ≡ false → Counts (i .count) held × Came held i
-came held i s e = (counts (i .count) held (s .within), record { replies = s .replies; in-turn = s .in-turn; bytes = s .bytes; closed = e })
+came held i s e = (counts (i .count) held (s .within), record { replies = s .replies; in-turn = s .in-turn; bytes = s .bytes; unbroken = s .unbroken; closed = e })

@@ -1,7 +1,7 @@
 -- What the answers of the system's read say of an input. No contract can say what a read does; that what it answered and left in memory is used
 -- as said here is one. Assumes nothing.
 use mathlib.Core.Path.{_≡_}
-use mathlib.Core.Bool.{Bool, false, not, _&&_}
+use mathlib.Core.Bool.{Bool, true, false, not, _&&_}
 use mathlib.Core.List.{List, [], _∷_, _++_}
 use Prim.Native.Nat.{ℕ, _+_, _≤_}
 use lib.Dec.{ltb, eqb}
@@ -45,6 +45,11 @@ unfoldable pub pieces : List Reply → List ℕ
 pieces [] = []
 pieces (a ∷ before) = pieces before ++ piece a
 
+-- each was asked for while there was more to read, with room for n bytes in all: none after the end or a failure
+unfoldable pub Unbroken : ℕ → List Reply → Type 0
+Unbroken n [] = Unit {0}
+Unbroken n (a ∷ before) = (goesOn n (inTurn before) ≡ true) × Unbroken n before
+
 -- ---- what the functions promise
 -- no count passes what a machine number holds
 abbrev pub Room : ℕ → ℕ → Type 0
@@ -61,4 +66,5 @@ pub record Came (held : List ℕ) (r : Input) : Type 0 where
   pub replies : List Reply
   pub in-turn : r ≡ inTurn replies
   pub bytes : take (r .count) held ≡ pieces replies
+  pub unbroken : Unbroken (length held) replies
   pub closed : goesOn (length held) r ≡ false

@@ -7,6 +7,7 @@ pub use inputs::Input;
 pub use inputs::bytes_of;
 pub use inputs::has_failed;
 pub use inputs::read_input;
+pub use outputs::Receipt;
 pub use outputs::hand_on;
 pub use outputs::hand_refusal;
 pub use outputs::tell_unread;

@@ -3,7 +3,7 @@ use crate::inputs::Input;
 use libc::STDERR_FILENO;
 use libc::STDOUT_FILENO;
 ghost use mathlib.Core.Path.{_≡_};
-ghost use mathlib.Core.Bool.{false};
+ghost use mathlib.Core.Bool.{true, false};
 ghost use mathlib.Core.List.{[], _∷_};
 ghost use lib.IntN.{pos};
 ghost use lib.ListN.{length};
@@ -11,6 +11,12 @@ ghost use Rattle.model.specs.Forms.{writeForm};
 ghost use Rattle.model.specs.Printing.{refusedForm};
 ghost use Rattle.streams.specs.Reading.{Came};
 ghost use Rattle.streams.specs.Inputs.{Answers};
+
+// That an answer was handed on, and how many bytes it has; or that none was, and standard error tells why. The field is private, so that only
+// this file makes one.
+pub struct Receipt {
+    bytes: usize,
+}
 
 // Writes to standard output, and says whether all was taken.
 fn write_to(fd: i32, text: &[u8]) -> bool
@@ -30,33 +36,37 @@ fn write_out(text: &[u8]) {
     }
 }
 
-// Hands on the answer to an input that was read with no failure, and nothing else, and says how many bytes it has.
-pub fn hand_on(text: &[u8], held: &[u8], input: Input) -> usize
+// Hands on the answer to an input that was read with no failure, and nothing else.
+pub fn hand_on(text: &[u8], held: &[u8], input: Input) -> Receipt
     requires came { ⌜ Came (now held) input ⌝ }
     requires read { ⌜ input .failed ≡ false ⌝ }
     requires answer { ⌜ Answers (now held) (input .count) (now text) ⌝ }
-    ensures bytes { λ r. ⌜ r ≡ length (now (text .entry)) ⌝ }
+    ensures bytes { λ r. ⌜ r .bytes ≡ length (now (text .entry)) ⌝ }
 {
     write_out(text);
-    text.len()
+    let bytes = text.len();
+    Receipt { bytes }
 }
 
-// Hands on the line of a refusal, and nothing else, and says how many bytes it has.
-pub fn hand_refusal(text: &[u8], refusal: u8) -> usize
+// Hands on the line of a refusal, and nothing else.
+pub fn hand_refusal(text: &[u8], refusal: u8) -> Receipt
     requires line { ⌜ now text ≡ writeForm refusedForm (pos refusal ∷ []) ⌝ }
-    ensures bytes { λ r. ⌜ r ≡ length (now (text .entry)) ⌝ }
+    ensures bytes { λ r. ⌜ r .bytes ≡ length (now (text .entry)) ⌝ }
 {
     write_out(text);
-    text.len()
+    let bytes = text.len();
+    Receipt { bytes }
 }
 
-// Tells on standard error that an input was not read to its end: no byte of an answer is handed on.
-pub fn tell_unread() -> usize
-    ensures bytes { λ r. ⌜ r ≡ 0 ⌝ }
+// Tells on standard error that an input was not read to its end, and only of such a one.
+pub fn tell_unread(held: &[u8], input: Input) -> Receipt
+    requires came { ⌜ Came (now held) input ⌝ }
+    requires unread { ⌜ input .failed ≡ true ⌝ }
+    ensures none { λ r. ⌜ r .bytes ≡ 0 ⌝ }
 {
     io::write_all(
         STDERR_FILENO,
         b"clearmap: the input could not be read to its end\n",
     );
-    0
+    Receipt { bytes: 0 }
 }

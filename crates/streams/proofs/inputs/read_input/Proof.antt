@@ -34,7 +34,7 @@ loop-again : tie.Need-loop-again Inv-loop μ-loop
 loop-again c =
     let l = c .before .before .before .before .before .before .loop in
     let r = c .before .before .read-more in
-    (r .kept .1 .0 ∙ l .inv .0, turns.turn (l .held) (r .last .1 .0) (l .input) (r .result) (l .inv .1) (r .ensures))
+    (r .kept .1 .0 ∙ l .inv .0, turns.turn (l .held) (r .last .1 .0) (l .input) (r .result) (l .inv .1) (r .ensures) (r .kept .1 .0) (sym (c .before .before .before .before .before .goes-on .ensures) ∙ c .before .before .before .before .if1 .taken))
 
 same-length : tie.Need-same-length Inv-loop μ-loop
 same-length c = c .before .before .loop .inv .0
