@@ -1,7 +1,7 @@
 -- Figures on either side of each number and each comparison of exploring, the plate and the distance of a point. Everything is computed.
 -- Assumes nothing.
 use mathlib.Core.Path.{_≡_, refl, subst}
-use mathlib.Core.Bool.{Bool, true, false}
+use mathlib.Core.Bool.{Bool, true, false, _&&_}
 use mathlib.Core.Logic.{_⊎_, inl, inr}
 use mathlib.Core.List.{List, [], _∷_}
 use Prim.Native.Nat.{ℕ, zero, suc}
@@ -15,11 +15,12 @@ use Rattle.basics.specs.Numbers.{absℤ}
 use Rattle.model.specs.declared.Job.{Job}
 use Rattle.model.specs.Jobs.{edgesFrom, outline}
 use Rattle.model.specs.Bytes.{bytes}
+use Rattle.model.specs.Sheets.{same}
 use Rattle.model.specs.Strips.{Strip, sideAt, strip}
 use Rattle.model.specs.Trees.{Tree, leaf, long, node, pieces, tree}
 use Rattle.model.specs.Store.{forest}
 use Rattle.model.specs.Roots.{rootBy, root}
-use Rattle.model.specs.Explore.{Cell, Answer, inside, away, maybe, isInside, isAway₁, isAway₂, judged, join, explore, exploreAll}
+use Rattle.model.specs.Explore.{Cell, Answer, inside, away, maybe, isInside, isAway₁, isAway₂, byTests, judged, join, explore, exploreAll}
 use Rattle.model.specs.Plates.{Verdict, clear, within, doubtful, mixed, letter, drawn, mapped, mapOf}
 use Rattle.model.specs.Distance.{leaves, leavesAll, leavesAt, least, lo, hi, Attains}
 use Rattle.model.specs.FigureTables.{AllHold, _and_, side, stripOf, job}
@@ -29,11 +30,16 @@ pub data Figure : Type 0 where
   tests : ℤ → Cell → Strip → Bool → Bool → Bool → Figure
   -- what a strip says of a cell
   says : ℤ → Cell → Strip → Answer → Figure
+  -- the answer of a strip for which the test of inside and one of away give these
+  answers : Bool → Bool → Answer → Figure
   -- two answers joined
   joins : Answer → Answer → Answer → Figure
   -- trees whose strips say what `told` gives
   explores : List Tree → Answer → Figure
   letters : Verdict → ℕ → Figure
+  -- the verdict on smallest cell (i, j) of a square of 2^n columns of side 2^M with its corner at (X, Y), where one cell is inside and any
+  -- other neither
+  draws : ℕ → ℕ → ℤ → ℤ → ℕ → ℕ → Cell → Verdict → Figure
   -- a job's map, row after row from the lowest
   maps : Job → String → Figure
   -- the leaves of some trees
@@ -59,6 +65,10 @@ abbrev pub told : ℤ → Answer
 told (pos n) = elim n [ zero ↦ inside | suc k ↦ elim k [ zero ↦ away | suc l ↦ maybe ] ]
 told (negsuc n) = maybe
 
+-- inside for the first cell alone
+abbrev pub at-cell : Cell → Cell → Answer
+at-cell c d = elim (same (c .cx) (d .cx) && (same (c .cy) (d .cy) && same (c .s) (d .s))) [ true ↦ inside | false ↦ maybe ]
+
 abbrev pub strips : List ℤ → List Strip
 strips [] = []
 strips (c ∷ cs) = at c ∷ strips cs
@@ -66,9 +76,11 @@ strips (c ∷ cs) = at c ∷ strips cs
 abbrev pub Holds : Figure → Type 0
 Holds (tests r c S i a b) = (isInside r c S ≡ i) × (isAway₁ r c S ≡ a) × (isAway₂ r c S ≡ b)
 Holds (says r c S a) = judged r c S ≡ a
+Holds (answers i a b) = byTests i a ≡ b
 Holds (joins a b c) = join a b ≡ c
 Holds (explores ts a) = exploreAll (λ S. told (S .x .centre)) ts ≡ a
 Holds (letters v b) = letter v ≡ b
+Holds (draws M n X Y i j c v) = drawn (λ d S. at-cell c d) (leaf (at (pos 0)) ∷ []) M n X Y i j ≡ v
 Holds (maps j s) = mapOf j ≡ bytes s
 Holds (ends ts cs) = leavesAll ts ≡ strips cs
 Holds (least-of cs c) = least (λ S. S .x .centre) (strips cs) ≡ c
@@ -129,6 +141,11 @@ exploreFigures =
     ∷ says (pos 51) here (stripOf (side (pos 17) (negsuc 10) (pos 5)) (side (negsuc 10) (pos 14) (pos 10))) inside
     ∷ says (pos 49) here (stripOf (side (pos 63) (negsuc 10) (pos 5)) (side (negsuc 90) (pos 14) (pos 10))) away
     ∷ says (pos 10) here (stripOf (side (pos 27) (negsuc 2) (pos 2)) (side (negsuc 2) (pos 5) (pos 3))) away
+    -- inside comes first
+    ∷ answers true true inside
+    ∷ answers true false inside
+    ∷ answers false true away
+    ∷ answers false false maybe
     ∷ joins inside inside inside
     ∷ joins inside away inside
     ∷ joins inside maybe inside
@@ -159,6 +176,10 @@ plateFigures =
     ∷ letters within 73
     ∷ letters doubtful 68
     ∷ letters mixed 0
+    -- the square of side 8 from (−3, 5), its quarter of side 4 from (1, 5), and of that the smallest cell from (1, 7)
+    ∷ draws 1 2 (negsuc 2) (pos 5) 2 1 (cell (pos 16) (pos 144) (pos 64)) within
+    ∷ draws 1 2 (negsuc 2) (pos 5) 2 1 (cell (pos 48) (pos 112) (pos 32)) within
+    ∷ draws 1 2 (negsuc 2) (pos 5) 2 1 (cell (pos 32) (pos 128) (pos 16)) within
     -- maps that no turn and no mirror leaves as they are
     ∷ maps (job (negsuc 2) (pos 5) (pos 3) (pos 0) (pos 2) (pos 1) 1 (negsuc 1 ∷ pos 11 ∷ negsuc 1 ∷ pos 11 ∷ negsuc 1 ∷ pos 11 ∷ negsuc 1 ∷ pos 11 ∷ [])) "CCCCCCCCCCCCCCCCCCCCCCCCDDCCCCCCDDDCCCCCIIDDCCCCIIDDCCCCDDDCCCCC"
     ∷ maps two "IIDDDDDICDDICCDD"
@@ -199,14 +220,15 @@ exploring-holds =
     and (refl, refl, refl) and (refl, refl, refl) and (refl, refl, refl) and (refl, refl, refl) and (refl, refl, refl) and (refl, refl, refl) and (refl, refl, refl)
     and (refl, refl, refl) and (refl, refl, refl)
     and refl and refl and refl and refl
+    and refl and refl and refl and refl
     and refl and refl and refl and refl and refl and refl and refl and refl and refl
     and refl and refl and refl and refl and refl and refl and refl and refl and refl and refl and refl
     and tt
 
 pub plates-hold : AllHold Holds plateFigures
-unfolding mapOf mapped rowMajor table drawn exploreAll explore isInside isAway₁ isAway₂ absℤ root rootBy strip sideAt tree pieces forest outline edgesFrom leaves leavesAll leavesAt least
+unfolding same mapOf mapped rowMajor table drawn exploreAll explore isInside isAway₁ isAway₂ absℤ root rootBy strip sideAt tree pieces forest outline edgesFrom leaves leavesAll leavesAt least
 plates-hold =
-    refl and refl and refl and refl and refl and refl and refl and refl and refl and refl and refl and refl and refl
+    refl and refl and refl and refl and refl and refl and refl and refl and refl and refl and refl and refl and refl and refl and refl and refl
     and (refl, refl) and inl refl and apart (pos 15496) (pos 6856) tt and (refl, refl) and apart (pos 42632) (pos 1480) tt and inl refl and (λ h. h) and inl refl and inl refl
     and (refl, refl) and (refl, refl) and (refl, refl)
     and tt
