@@ -1,6 +1,7 @@
--- Figures of the entries: of any two refusals that apply the lower is given, memory lent is long enough or one place too short, what it
--- holds afterwards, and what the program lends. Everything is computed. Assumes nothing.
+-- Figures of the entries: checks stand in the order of their numbers, of any two refusals that apply the lower is given, memory lent is long
+-- enough or one place too short, what it holds afterwards, and what the program lends. Everything is computed. Assumes nothing.
 use mathlib.Core.Path.{_≡_, refl}
+use mathlib.Core.Bool.{Bool, true, false}
 use mathlib.Core.List.{List, [], _∷_, _++_}
 use mathlib.Core.Logic.{inl}
 use Prim.Native.Nat.{ℕ}
@@ -13,7 +14,7 @@ use Rattle.model.specs.declared.Job.{Job}
 use Rattle.model.specs.declared.Written.{Written}
 use Rattle.model.specs.declared.Map.{Map}
 use Rattle.model.specs.declared.Nearest.{Nearest}
-use Rattle.model.specs.Refusals.{accepted}
+use Rattle.model.specs.Refusals.{range, cell, Checks, first, check, rises, accepted}
 use Rattle.model.specs.Jobs.{between, coordinate, isZero, placed, counted, ranged, celled, judge, edgesFrom, outline}
 use Rattle.model.specs.Bytes.{bytes, digit}
 use Rattle.model.specs.Numbers.{decimal, text, moreDigits, natural, number}
@@ -27,11 +28,15 @@ use Rattle.model.specs.Roots.{rootBy, root}
 use Rattle.model.specs.Explore.{isInside, isAway₁, isAway₂, explore, exploreAll}
 use Rattle.model.specs.Plates.{drawn, mapped, mapOf}
 use Rattle.model.specs.Distance.{leaves, leavesAll, leavesAt, least}
-use Rattle.model.specs.Entries.{readAnswer, read, writeRefusal, write, writeLeaves, mapRefusal, map, mapStore, mapCells, pointRefusal, IsNearest}
-use Rattle.model.specs.Printing.{rowText, rowsText, mapForm, refusedForm, mapText, answered, mapAnswered, printed}
+use Rattle.model.specs.Entries.{readChecks, readAnswer, read, writeRefusal, write, writeLeaves, mapRefusal, map, mapStore, mapCells, pointRefusal, IsNearest}
+use Rattle.model.specs.Printing.{rowText, rowsText, mapForm, refusedForm, mapText, storeLent, cellsLent, answered, mapAnswered, printed}
 use Rattle.model.specs.FigureTables.{AllHold, _and_, job}
 
 pub data Figure : Type 0 where
+  -- whether the numbers of some checks rise, from n on
+  rise : ℕ → Checks → Bool → Figure
+  -- a sheet, and the refusal that its checks give
+  read-checked : String → ℕ → Figure
   -- writing a job into memory that holds this: the answer, and what the memory holds then
   writes : Job → List ℕ → Written → List ℕ → Figure
   -- the refusal, with so many bytes lent
@@ -44,17 +49,22 @@ pub data Figure : Type 0 where
   point-refused : Job → ℤ → ℤ → List ℤ → ℕ → Figure
   -- the whole answer
   point-of : Job → ℤ → ℤ → List ℤ → Nearest → Figure
+  -- how many numbers and how many bytes the program lends
+  lends : ℕ → ℕ → Figure
   -- the program's input and what it prints, or how that begins
   prints : String → String → Figure
   prints-first : String → String → Figure
 
 abbrev pub Holds : Figure → Type 0
+Holds (rise n cs b) = rises n cs ≡ b
+Holds (read-checked s k) = first (readChecks (readSheet (bytes s))) ≡ k
 Holds (writes j out w left) = (write j out ≡ w) × (writeLeaves j out ≡ left)
 Holds (write-refused j n k) = writeRefusal j (replicate n 0) ≡ k
 Holds (maps j s c a t d) = (map j s c ≡ a) × (mapStore j s c ≡ t) × (mapCells j s c ≡ d)
 Holds (map-refused j s c k) = mapRefusal j (replicate s (pos 0)) (replicate c 0) ≡ k
 Holds (point-refused j x y ns k) = pointRefusal j x y ns ≡ k
 Holds (point-of j x y ns a) = IsNearest j x y ns a
+Holds (lends s c) = (storeLent ≡ s) × (cellsLent ≡ c)
 Holds (prints s t) = printed (bytes s) ≡ bytes t
 Holds (prints-first s t) = take (length (bytes t)) (printed (bytes s)) ≡ bytes t
 
@@ -82,6 +92,20 @@ refused k = record { refusal = k; lo = pos 0; hi = pos 0; edge = 0 }
 -- out of every range
 abbrev pub off : ℤ
 off = pos 1000001
+
+-- ---- checks in their order, and those of reading
+abbrev pub checkFigures : List Figure
+checkFigures =
+    rise 3 [] true
+    ∷ rise 3 (check range true ++ (check range false ++ check cell true)) true
+    ∷ rise 4 (check range true) false
+    ∷ rise 3 (check cell true ++ check range true) false
+    ∷ read-checked "" 1
+    ∷ read-checked soundSheet 0
+    ∷ read-checked "(job\n(plate 0 0 0)\n(cell 1)\n(reach 0)\n)\n" 2
+    ∷ read-checked "(job\n(plate 0 0 0)\n(cell 1)\n(reach 0)\n(edge (0 0) (0 0) (0 0) (0 0))\n)\n" 3
+    ∷ read-checked "(job\n(plate 0 0 0)\n(cell 1)\n(reach 1)\n(edge (0 0) (0 0) (0 0) (0 0))\n)\n" 4
+    ∷ []
 
 -- ---- writing: the sheet has 71 bytes
 abbrev pub writeFigures : List Figure
@@ -145,8 +169,9 @@ pointFigures =
 -- ---- printing
 abbrev pub printFigures : List Figure
 printFigures =
+    lends 16380 65536
     -- rows from the lowest, letters from the left
-    prints "(job\n(plate 0 0 4)\n(cell 2)\n(reach 7)\n(grain 1)\n(edge (2 14) (2 14) (2 14) (2 14))\n)\n" "(map 4\n(row CCCC)\n(row DDCC)\n(row IDDC)\n(row IIDC)\n)\n"
+    ∷ prints "(job\n(plate 0 0 4)\n(cell 2)\n(reach 7)\n(grain 1)\n(edge (2 14) (2 14) (2 14) (2 14))\n)\n" "(map 4\n(row CCCC)\n(row DDCC)\n(row IDDC)\n(row IIDC)\n)\n"
     ∷ prints "(job\n(plate 0 0 0)\n(cell 0)\n(reach 1)\n)\n" "(refused 2)\n"
     ∷ prints "(job\n(plate 0 0 0)\n(cell 0)\n(reach 1)\n(grain 1)\n(edge (0 0) (333333 0) (666666 0) (999999 0))\n)\n" "(refused 5)\n"
     -- 256 · 256 cells are drawn
@@ -157,6 +182,10 @@ printFigures =
     ∷ []
 
 -- ---- the statements
+pub checking-holds : AllHold Holds checkFigures
+unfolding readSheet ended layout tailLayout jobForm plateForm cellForm reachForm grainForm edgeForm endForm readAll readLines readLine readForm byte number natural moreDigits digit joined fit counted ranged celled between coordinate isZero placed
+checking-holds = refl and refl and refl and refl and refl and refl and refl and refl and refl and tt
+
 pub writing-holds : AllHold Holds writeFigures
 unfolding write writeLeaves writeRefusal accepted counted ranged celled between coordinate isZero placed layout tailLayout jobForm plateForm cellForm reachForm grainForm edgeForm endForm sheetOf writeAll writeLines writeLine writeForm text decimal stated same edgeLines
 writing-holds =
@@ -183,4 +212,4 @@ asking-holds =
 
 pub printing-holds : AllHold Holds printFigures
 unfolding printed mapAnswered answered mapText rowsText rowText mapForm refusedForm read readAnswer readSheet ended layout tailLayout jobForm plateForm cellForm reachForm grainForm edgeForm endForm readAll readLines readLine readForm byte number natural moreDigits digit joined fit judge accepted counted ranged celled between coordinate isZero placed writeForm text decimal mapRefusal forest outline edgesFrom sideAt strip absℤ tree pieces mapOf mapped rowMajor table drawn exploreAll explore isInside isAway₁ isAway₂ root rootBy
-printing-holds = refl and refl and refl and refl and refl and refl and tt
+printing-holds = (refl, refl) and refl and refl and refl and refl and refl and refl and tt
