@@ -112,6 +112,9 @@ layoutFigures =
     ∷ reads-lines eitherLayout "a5\na6\nb7\n" ((plain (pos 5 ∷ []) ∷ plain (pos 6 ∷ []) ∷ []) ∷ [] ∷ []) "b7\n"
     ∷ reads-lines eitherLayout "a5\nc7 8\nc7 8\n" ((plain (pos 5 ∷ []) ∷ []) ∷ (plain (pos 7 ∷ pos 8 ∷ []) ∷ []) ∷ []) "c7 8\n"
     ∷ reads-lines eitherLayout "a5\nc7 8" ((plain (pos 5 ∷ []) ∷ []) ∷ [] ∷ []) "c7 8"
+    -- a line without one of its numbers is none
+    ∷ reads-lines eitherLayout "a5\nc7 x\n" ((plain (pos 5 ∷ []) ∷ []) ∷ [] ∷ []) "c7 x\n"
+    ∷ no-lines eitherLayout "a\n"
     ∷ no-lines eitherLayout "c7 8\n"
     ∷ no-lines eitherLayout ""
     ∷ []
@@ -198,7 +201,7 @@ numbers-hold =
 pub layouts-hold : AllHold Holds layoutFigures
 unfolding text decimal number natural moreDigits digit writeAll writeLines writeLine writeForm readAll readLines readLine readForm byte
 layouts-hold =
-    refl and refl and refl and refl and refl and refl and refl and refl and refl and refl
+    refl and refl and refl and refl and refl and refl and refl and refl and refl and refl and refl and refl
     and tt
 
 pub sheets-hold : AllHold Holds sheetFigures
