@@ -4,7 +4,7 @@ use mathlib.Core.Bool.{Bool, true, false}
 use mathlib.Core.List.{List, [], _∷_}
 use Prim.Native.Nat.{ℕ}
 use lib.IntN.{ℤ, pos, negsuc}
-use Rattle.basics.specs.Numbers.{absℤ}
+use Rattle.basics.specs.Numbers.{_^ℤ_, absℤ}
 use Rattle.model.specs.declared.Job.{Job}
 use Rattle.model.specs.Jobs.{Edge, edgesFrom, outline}
 use Rattle.model.specs.Strips.{Side, Strip, sideAt, strip, short}
@@ -15,6 +15,8 @@ use Rattle.model.specs.Roots.{rootBy, root}
 use Rattle.model.specs.FigureTables.{AllHold, _and_, cubic, edge, side, stripOf, job}
 
 pub data Figure : Type 0 where
+  -- a power
+  power-of : ℤ → ℕ → ℤ → Figure
   -- the strip of piece k of depth d
   strip-of : Edge → ℕ → ℕ → Side → Side → Figure
   -- whether a strip is short at grain T
@@ -30,6 +32,7 @@ pub data Figure : Type 0 where
   root-of : ℕ → ℕ → Figure
 
 abbrev pub Holds : Figure → Type 0
+Holds (power-of z n p) = z ^ℤ n ≡ p
 Holds (strip-of e d k x y) = strip e d k ≡ stripOf x y
 Holds (short-at T s b) = short T s ≡ b
 Holds (tree-of T e ns) = flatten (tree T e) ≡ ns
@@ -57,7 +60,10 @@ dot = span (pos 0) (pos 0) (pos 2) (pos 2)
 -- ---- the table
 abbrev pub stripFigures : List Figure
 stripFigures =
-    strip-of uneven 2 2 (side (pos 4787) (pos 8730) (pos 2247)) (side (negsuc 30038) (negsuc 24292) (pos 1255))
+    power-of (negsuc 2) 0 (pos 1)
+    ∷ power-of (negsuc 2) 1 (negsuc 2)
+    ∷ power-of (negsuc 2) 3 (negsuc 26)
+    ∷ strip-of uneven 2 2 (side (pos 4787) (pos 8730) (pos 2247)) (side (negsuc 30038) (negsuc 24292) (pos 1255))
     ∷ strip-of uneven 3 5 (side (pos 8590) (pos 6527) (pos 647)) (side (negsuc 41924) (negsuc 13254) (pos 223))
     -- 16 fine units are a grain of 1: just short, and not, in either coordinate
     ∷ short-at (pos 1) (span (negsuc 13) (pos 0) (pos 2) (pos 2)) true
@@ -115,14 +121,16 @@ stripFigures =
     ∷ root-of 1522756 1234
     ∷ root-of 1522757 1235
     ∷ root-of 1525225 1235
+    -- of 2^63, more than the squares of two axes come to
+    ∷ root-of 9223372036854775808 3037000500
     ∷ []
 
 pub strips-hold : AllHold Holds stripFigures
 unfolding strip sideAt absℤ tree pieces forest outline edgesFrom begins same root rootBy
 strips-hold =
-    refl and refl and refl and refl and refl and refl and refl and refl and refl and refl
+    refl and refl and refl and refl and refl and refl and refl and refl and refl and refl and refl and refl and refl
     and refl and refl and refl and refl
     and (refl, refl)
     and refl and refl and refl and refl and refl and refl and refl and refl and refl
-    and refl and refl and refl and refl and refl and refl and refl and refl and refl and refl and refl and refl
+    and refl and refl and refl and refl and refl and refl and refl and refl and refl and refl and refl and refl and refl
     and tt
