@@ -21,6 +21,8 @@ pub data Figure : Type 0 where
   strip-of : Edge → ℕ → ℕ → Side → Side → Figure
   -- whether a strip is short at grain T
   short-at : ℤ → Strip → Bool → Figure
+  -- the tree of piece k of depth d at grain T, which may still be halved so often, where the strips show depth and number
+  pieces-of : ℤ → ℕ → ℕ → ℕ → Tree → Figure
   -- the numbers of an edge's tree at grain T, node after node
   tree-of : ℤ → Edge → List ℤ → Figure
   -- whether some tree has a long end
@@ -30,16 +32,6 @@ pub data Figure : Type 0 where
   -- whether the first numbers are the second
   begins-with : List ℤ → List ℤ → Bool → Figure
   root-of : ℕ → ℕ → Figure
-
-abbrev pub Holds : Figure → Type 0
-Holds (power-of z n p) = z ^ℤ n ≡ p
-Holds (strip-of e d k x y) = strip e d k ≡ stripOf x y
-Holds (short-at T s b) = short T s ≡ b
-Holds (tree-of T e ns) = flatten (tree T e) ≡ ns
-Holds (long-of ts b) = anyLong ts ≡ b
-Holds (store-of j n ns) = (nodesOf j ≡ n) × (storeOf j ≡ ns)
-Holds (begins-with s ns b) = begins s ns ≡ b
-Holds (root-of n h) = root n ≡ h
 
 -- ---- shorthands
 -- no two coefficients are alike, and none is small against the quotients
@@ -57,6 +49,21 @@ span p q a b = stripOf (side (pos 0) p a) (side (pos 0) q b)
 abbrev pub dot : Strip
 dot = span (pos 0) (pos 0) (pos 2) (pos 2)
 
+-- a strip that shows two numbers
+abbrev pub shown : ℕ → ℕ → Strip
+shown d k = span (pos d) (pos k) (pos 2) (pos 2)
+
+abbrev pub Holds : Figure → Type 0
+Holds (power-of z n p) = z ^ℤ n ≡ p
+Holds (strip-of e d k x y) = strip e d k ≡ stripOf x y
+Holds (short-at T s b) = short T s ≡ b
+Holds (pieces-of T left d k t) = pieces T shown left d k ≡ t
+Holds (tree-of T e ns) = flatten (tree T e) ≡ ns
+Holds (long-of ts b) = anyLong ts ≡ b
+Holds (store-of j n ns) = (nodesOf j ≡ n) × (storeOf j ≡ ns)
+Holds (begins-with s ns b) = begins s ns ≡ b
+Holds (root-of n h) = root n ≡ h
+
 -- ---- the table
 abbrev pub stripFigures : List Figure
 stripFigures =
@@ -73,6 +80,11 @@ stripFigures =
     ∷ short-at (pos 1) (span (pos 0) (pos 15) (pos 2) (pos 2)) false
     ∷ short-at (pos 1) (span (pos 0) (negsuc 13) (pos 2) (pos 3)) false
     ∷ short-at (pos 3) (span (pos 40) (pos 41) (pos 8) (pos 7)) true
+    -- the end of halving, short and long, and one halving before it
+    ∷ pieces-of (pos 1) 0 3 5 (leaf (shown 3 5))
+    ∷ pieces-of (pos 1) 0 10 15 (long (shown 10 15))
+    ∷ pieces-of (pos 1) 0 15 10 (long (shown 15 10))
+    ∷ pieces-of (pos 1) 1 15 6 (node (shown 15 6) (long (shown 16 12)) (long (shown 16 13)))
     -- left halves before right ones, at each depth
     ∷ tree-of (pos 6) leaning
     (pos 209 ∷ pos 22 ∷ pos 305 ∷ negsuc 95 ∷ pos 129 ∷ pos 40 ∷ pos 11
@@ -128,7 +140,7 @@ stripFigures =
 pub strips-hold : AllHold Holds stripFigures
 unfolding strip sideAt absℤ tree pieces forest outline edgesFrom begins same root rootBy
 strips-hold =
-    refl and refl and refl and refl and refl and refl and refl and refl and refl and refl and refl and refl and refl
+    refl and refl and refl and refl and refl and refl and refl and refl and refl and refl and refl and refl and refl and refl and refl and refl and refl
     and refl and refl and refl and refl
     and (refl, refl)
     and refl and refl and refl and refl and refl and refl and refl and refl and refl
