@@ -98,6 +98,9 @@ pointFigures =
     ∷ in-cell 2 (negsuc 2) (pos 5) 2 1 (point (over (pos 9001) 999) (whole (pos 10))) false
     ∷ in-cell 2 (negsuc 2) (pos 5) 2 1 (point (whole (pos 7)) (over (pos 8999) 999)) false
     ∷ in-cell 2 (negsuc 2) (pos 5) 2 1 (point (whole (pos 7)) (over (pos 13001) 999)) false
+    -- a cell of side 8 there: x from 13 to 21, y from 13 to 21
+    ∷ in-cell 3 (negsuc 2) (pos 5) 2 1 (spot (pos 13) (pos 13)) true
+    ∷ in-cell 3 (negsuc 2) (pos 5) 2 1 (spot (pos 21) (pos 21)) true
     ∷ []
 
 -- ---- the statement
@@ -159,4 +162,6 @@ points-hold =
     and record { column = record { first = record { le = tt }; last = record { le = tt } }; row = record { first = record { le = tt }; last = record { le = tt } } }
     and record { column = record { first = record { le = tt }; last = record { le = tt } }; row = record { first = record { le = tt }; last = record { le = tt } } }
     and (λ h. h .column .first .le) and (λ h. h .column .last .le) and (λ h. h .row .first .le) and (λ h. h .row .last .le)
+    and record { column = record { first = record { le = tt }; last = record { le = tt } }; row = record { first = record { le = tt }; last = record { le = tt } } }
+    and record { column = record { first = record { le = tt }; last = record { le = tt } }; row = record { first = record { le = tt }; last = record { le = tt } } }
     and tt
