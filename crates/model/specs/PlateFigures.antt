@@ -42,6 +42,8 @@ pub data Figure : Type 0 where
   draws : ℕ → ℕ → ℤ → ℤ → ℕ → ℕ → Cell → Verdict → Figure
   -- a job's map, row after row from the lowest
   maps : Job → String → Figure
+  -- a job's verdict in column i and row k
+  mapped-at : Job → ℕ → ℕ → Verdict → Figure
   -- the leaves of some trees
   ends : List Tree → List ℤ → Figure
   -- the least centre of some strips
@@ -82,6 +84,7 @@ Holds (explores ts a) = exploreAll (λ S. told (S .x .centre)) ts ≡ a
 Holds (letters v b) = letter v ≡ b
 Holds (draws M n X Y i j c v) = drawn (λ d S. at-cell c d) (leaf (at (pos 0)) ∷ []) M n X Y i j ≡ v
 Holds (maps j s) = mapOf j ≡ bytes s
+Holds (mapped-at j i k v) = mapped j i k ≡ v
 Holds (ends ts cs) = leavesAll ts ≡ strips cs
 Holds (least-of cs c) = least (λ S. S .x .centre) (strips cs) ≡ c
 Holds (bounds j x y l h) = (lo (forest j) x y ≡ l) × (hi (forest j) x y ≡ h)
@@ -183,6 +186,9 @@ plateFigures =
     -- maps that no turn and no mirror leaves as they are
     ∷ maps (job (negsuc 2) (pos 5) (pos 3) (pos 0) (pos 2) (pos 1) 1 (negsuc 1 ∷ pos 11 ∷ negsuc 1 ∷ pos 11 ∷ negsuc 1 ∷ pos 11 ∷ negsuc 1 ∷ pos 11 ∷ [])) "CCCCCCCCCCCCCCCCCCCCCCCCDDCCCCCCDDDCCCCCIIDDCCCCIIDDCCCCDDDCCCCC"
     ∷ maps two "IIDDDDDICDDICCDD"
+    -- a plate of four columns ends with the fourth: what is past it is drawn as it is
+    ∷ mapped-at two 3 0 doubtful
+    ∷ mapped-at two 5 0 doubtful
     -- the last cell of the lowest row is clear across the axis alone; with a reach of nothing others would be
     ∷ maps slanted "DDDCDDDDDIDDDDDD"
     ∷ ends (node (at (pos 3)) I A ∷ long (at (pos 4)) ∷ M ∷ []) (pos 0 ∷ pos 1 ∷ pos 4 ∷ pos 2 ∷ [])
@@ -228,7 +234,7 @@ exploring-holds =
 pub plates-hold : AllHold Holds plateFigures
 unfolding same mapOf mapped rowMajor table drawn exploreAll explore isInside isAway₁ isAway₂ absℤ root rootBy strip sideAt tree pieces forest outline edgesFrom leaves leavesAll leavesAt least
 plates-hold =
-    refl and refl and refl and refl and refl and refl and refl and refl and refl and refl and refl and refl and refl and refl and refl and refl
+    refl and refl and refl and refl and refl and refl and refl and refl and refl and refl and refl and refl and refl and refl and refl and refl and refl and refl
     and (refl, refl) and inl refl and apart (pos 15496) (pos 6856) tt and (refl, refl) and apart (pos 42632) (pos 1480) tt and inl refl and (λ h. h) and inl refl and inl refl
     and (refl, refl) and (refl, refl) and (refl, refl)
     and tt
