@@ -116,6 +116,7 @@ stripFigures =
     ∷ begins-with (pos 5 ∷ negsuc 5 ∷ []) (pos 5 ∷ negsuc 5 ∷ []) true
     ∷ begins-with (pos 5 ∷ []) (pos 5 ∷ negsuc 5 ∷ []) false
     ∷ begins-with (pos 6 ∷ negsuc 5 ∷ []) (pos 5 ∷ negsuc 5 ∷ []) false
+    ∷ begins-with (pos 5 ∷ negsuc 4 ∷ []) (pos 5 ∷ negsuc 5 ∷ []) false
     ∷ begins-with (pos 5 ∷ negsuc 6 ∷ []) (pos 5 ∷ negsuc 5 ∷ []) false
     ∷ begins-with (pos 5 ∷ pos 5 ∷ []) (pos 5 ∷ negsuc 5 ∷ []) false
     ∷ begins-with (negsuc 5 ∷ negsuc 5 ∷ []) (pos 5 ∷ negsuc 5 ∷ []) false
@@ -143,6 +144,6 @@ strips-hold =
     refl and refl and refl and refl and refl and refl and refl and refl and refl and refl and refl and refl and refl and refl and refl and refl and refl
     and refl and refl and refl and refl
     and (refl, refl)
-    and refl and refl and refl and refl and refl and refl and refl and refl and refl
+    and refl and refl and refl and refl and refl and refl and refl and refl and refl and refl
     and refl and refl and refl and refl and refl and refl and refl and refl and refl and refl and refl and refl and refl
     and tt
