@@ -85,6 +85,9 @@ numberFigures =
     ∷ no-number "-"
     ∷ no-number "--1"
     ∷ no-number ""
+    -- the bytes on either side of the minus
+    ∷ no-number ",1"
+    ∷ no-number ".1"
     -- the bytes on either side of the digits
     ∷ no-number "/"
     ∷ no-number ":"
@@ -195,7 +198,7 @@ pub numbers-hold : AllHold Holds numberFigures
 unfolding text decimal number natural moreDigits digit
 numbers-hold =
     refl and refl and refl and refl and refl and refl and refl and refl and refl and refl and refl and refl and refl and refl and refl and refl
-    and refl and refl and refl and refl and refl and refl and refl and refl and refl
+    and refl and refl and refl and refl and refl and refl and refl and refl and refl and refl and refl
     and tt
 
 pub layouts-hold : AllHold Holds layoutFigures
