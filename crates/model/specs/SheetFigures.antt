@@ -118,6 +118,9 @@ layoutFigures =
     -- a line without one of its numbers is none
     ∷ reads-lines eitherLayout "a5\nc7 x\n" ((plain (pos 5 ∷ []) ∷ []) ∷ [] ∷ []) "c7 x\n"
     ∷ no-lines eitherLayout "a\n"
+    -- the bytes on either side of a and b
+    ∷ no-lines eitherLayout "`5\n"
+    ∷ no-lines eitherLayout "c5\n"
     ∷ no-lines eitherLayout "c7 8\n"
     ∷ no-lines eitherLayout ""
     ∷ []
@@ -204,7 +207,7 @@ numbers-hold =
 pub layouts-hold : AllHold Holds layoutFigures
 unfolding text decimal number natural moreDigits digit writeAll writeLines writeLine writeForm readAll readLines readLine readForm byte
 layouts-hold =
-    refl and refl and refl and refl and refl and refl and refl and refl and refl and refl and refl and refl
+    refl and refl and refl and refl and refl and refl and refl and refl and refl and refl and refl and refl and refl and refl
     and tt
 
 pub sheets-hold : AllHold Holds sheetFigures
