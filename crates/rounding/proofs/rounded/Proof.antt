@@ -1,12 +1,13 @@
 -- Nothing wraps; the two ways through, by the remainder's sign, are those of `Whole`. Assumes nothing.
-use mathlib.Core.Path.{_≡_, sym, _∙_}
-use mathlib.Core.Bool.{cond}
-use mathlib.Core.Logic.{_↔_}
+use mathlib.Core.Path.{_≡_, refl, sym, ap, _∙_}
+use mathlib.Core.Bool.{Bool, true, false, cond}
+use mathlib.Core.Logic.{_↔_, _⊎_, inl, inr, ⊎-elim}
 use Prim.Native.Nat.{ℕ, _*_, _<_}
 use native.Mathlib.Omega.{arith}
+use borrow.Author.Tests.{ltb-true, ltb-false, leb-true, leb-false, le-ltb}
 use lib.Dec.{eqb}
-use lib.IntN.{ℤ, pos, natAbs, _+ℤ_, _*ℤ_}
-use lib.Signed.{quotZ, remZ}
+use lib.IntN.{ℤ, pos, negsuc, natAbs, _+ℤ_, _*ℤ_}
+use lib.Signed.{ltZ, quotZ, remZ}
 use mir.Syntax.{w64}
 use mir.Val.{toZ, ofZ}
 use Rattle.rounding.proofs.rounded.Statement.{statement}
@@ -44,12 +45,44 @@ module _ (c : tie.Start) where
   q : Made (quotZ (bits y-made) (bits d-made)) (quotZ (pos 2 *ℤ c .args .x +ℤ pos k) (pos (2 * k))) 7800000008589934592
   q = over y d tt
 
-  r : Made (remZ (bits y-made) (bits d-made)) (remZ (pos 2 *ℤ c .args .x +ℤ pos k) (pos (2 * k))) 7800000008589934592
+  abbrev left : ℤ
+  left = remZ (pos 2 *ℤ c .args .x +ℤ pos k) (pos (2 * k))
+
+  r : Made (remZ (bits y-made) (bits d-made)) left 7800000008589934592
   r = rest y d tt
 
--- a test of two numbers for being the same says whether the quotient is whole
-told : {u v a b : ℤ} {A B : ℕ} (z : ℤ) (m : ℕ) → 0 < m → Made u a A → Made v b B → (a ≡ b) ↔ (nearest z m *ℤ pos m ≡ z) → whole.rest z m ≡ cond (eqb (ofZ w64 u) (ofZ w64 v)) 0 1
-told {u} {v} z m h p q w = whole.rest-told z m (eqb (ofZ w64 u) (ofZ w64 v)) h (λ e. w .0 (test-eq p q e)) (λ e f. test-ne p q e (w .1 f))
+-- a test's answer as a number
+abbrev bit : Bool → ℕ
+bit t = cond t 1 0
+
+-- a number is below zero or natural: the remainder's test, in whatever words, is read at either
+sign : (z : ℤ) → ((n : ℕ) × (z ≡ negsuc n)) ⊎ ((n : ℕ) × (z ≡ pos n))
+sign (negsuc n) = inl (n, refl)
+sign (pos n) = inr (n, refl)
+
+below : (c : tie.Then1) → ltZ (left (c .before)) (pos 0) ≡ true
+below c =
+    let t = rw (back (r (c .before))) at (c .if1 .taken) in
+    ⊎-elim
+    (λ m. ap (λ (z : ℤ). ltZ z (pos 0)) (m .1))
+    (λ m. let e = rw (m .1) at t in absurd (omega (arith, ltb-true, leb-true, ap bit e)))
+    (sign (left (c .before)))
+
+above : (c : tie.Else1) → ltZ (left (c .before)) (pos 0) ≡ false
+above c =
+    let t = rw (back (r (c .before))) at (c .if1 .left) in
+    ⊎-elim
+    (λ m. let e = rw (m .1) at t in absurd (omega (arith, ltb-false, leb-false, ap bit e)))
+    (λ m. ap (λ (z : ℤ). ltZ z (pos 0)) (m .1) ∙ le-ltb (m .0) 0 (omega arith))
+    (sign (left (c .before)))
+
+-- a test of two numbers for being the same, whichever stands first, says whether the quotient is whole
+told : {u v a b : ℤ} {A B : ℕ} (z : ℤ) (m : ℕ) → 0 < m → Made u a A → Made v b B → (a ≡ b) ↔ (nearest z m *ℤ pos m ≡ z) →
+    (whole.rest z m ≡ cond (eqb (ofZ w64 u) (ofZ w64 v)) 0 1) × (whole.rest z m ≡ cond (eqb (ofZ w64 v) (ofZ w64 u)) 0 1)
+told {u} {v} z m h p q w = (
+  whole.rest-told z m (eqb (ofZ w64 u) (ofZ w64 v)) h (λ e. w .0 (test-eq p q e)) (λ e f. test-ne p q e (w .1 f)),
+  whole.rest-told z m (eqb (ofZ w64 v) (ofZ w64 u)) h (λ e. w .0 (sym (test-eq q p e))) (λ e f. test-ne q p e (sym (w .1 f))),
+)
 
 mul-y : tie.Need-mul-y
 mul-y c = (times (lit 2 tt) (x c) tt) .fits
@@ -75,17 +108,17 @@ add-t11 c = (plus (r (c .before)) (d (c .before)) tt) .fits
 returns : tie.Need-returns
 returns c =
     let s = c .before in
-    let e = rw (back (r s)) at (c .if1 .taken) in (
+    let e = below c in (
       back (minus (q s) (lit 1 tt) tt) ∙ sym (whole.below-is (s .args .x) (k s) (s .pre .2) e),
-      told (s .args .x) (k s) (s .pre .2) (plus (r s) (d s) tt) (n s) (whole.below-whole (s .args .x) (k s) (s .pre .2) e),
+      let t = told (s .args .x) (k s) (s .pre .2) (plus (r s) (d s) tt) (n s) (whole.below-whole (s .args .x) (k s) (s .pre .2) e) in cc,
     )
 
 returns-2 : tie.Need-returns-2
 returns-2 c =
     let s = c .before in
-    let e = rw (back (r s)) at (c .if1 .left) in (
+    let e = above c in (
       back (q s) ∙ sym (whole.above-is (s .args .x) (k s) (s .pre .2) e),
-      told (s .args .x) (k s) (s .pre .2) (r s) (n s) (whole.above-whole (s .args .x) (k s) (s .pre .2) e),
+      let t = told (s .args .x) (k s) (s .pre .2) (r s) (n s) (whole.above-whole (s .args .x) (k s) (s .pre .2) e) in cc,
     )
 
 pub rounded-spec : {M : Type 1} → statement M
