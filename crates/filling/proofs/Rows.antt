@@ -68,14 +68,15 @@ module _ (l : List ℕ) (n j c w b i y : ℕ) (i< : i < n) (cw : c + w ≤ n) (r
     middle : y ≡ j → c ≤ i → i < c + w → getD (filled 0 l (j * n + c) w b) (y * n + i) 0 ≡ cond (among c w i && (leb r y && ltb y (j + 1))) b x
     middle f p q = row-in f p q ∙ rw (le-leb c i p, lt-ltb i (c + w) q, le-leb r y (omega arith), lt-ltb y (j + 1) (omega arith))
 
-    -- one row more
-    pub one-row : getD (filled 0 l (j * n + c) w b) (y * n + i) 0 ≡ cond (among c w i && (leb r y && ltb y (j + 1))) b x
-    one-row =
-        ⊎-elim above
+    -- one row more, of which the stretch begins in column c
+    pub one-row : {k : ℕ} → k ≡ c → getD (filled 0 l (j * n + k) w b) (y * n + i) 0 ≡ cond (among c w i && (leb r y && ltb y (j + 1))) b x
+    one-row column =
+        rw column
+        (⊎-elim above
         (λ p. ⊎-elim under
         (λ q. let f : y ≡ j = omega arith in ⊎-elim (λ h. left f h) (λ h. ⊎-elim (λ k. middle f h k) (λ k. right f k) (below? i (c + w))) (below? i c))
         (below? j y))
-        (below? y j)
+        (below? y j))
 
 pub and-false : (t : Bool) → (t && false) ≡ false
 and-false true = refl

@@ -50,7 +50,7 @@ loop-again c =
       record {
         cells = λ i y i<.
             rw (f .ensures)
-            (one-row (l .map) (a .n) (l .j) (a .c) (a .w) (a .b) i y i< (s .pre .0) (omega (arith, l .inv .3, s .pre .2, row-end (l .j) (a .r + a .w) (a .n) (omega arith))) (a .r) (getD (a .map .now) (y * a .n + i) 0) (omega arith) (l .inv .4 .cells i y i<));
+            (one-row (l .map) (a .n) (l .j) (a .c) (a .w) (a .b) i y i< (s .pre .0) (omega (arith, l .inv .3, s .pre .2, row-end (l .j) (a .r + a .w) (a .n) (omega arith))) (a .r) (getD (a .map .now) (y * a .n + i) 0) (omega arith) (l .inv .4 .cells i y i<) (omega arith));
       },
     )
 
