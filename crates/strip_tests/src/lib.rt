@@ -35,7 +35,9 @@ fn inside(ax: i64, ay: i64, ex: i64, ey: i64, r: i64) -> bool
 {
     let fx = ax + ex;
     let fy = ay + ey;
-    fx * fx + fy * fy < r * r
+    let far = fx * fx + fy * fy;
+    let reach = r * r;
+    far < reach
 }
 
 fn apart(ax: i64, ay: i64, ex: i64, ey: i64, r: i64) -> bool
@@ -44,7 +46,9 @@ fn apart(ax: i64, ay: i64, ex: i64, ey: i64, r: i64) -> bool
 {
     let gx = excess(ax, ex);
     let gy = excess(ay, ey);
-    r * r < gx * gx + gy * gy
+    let near = gx * gx + gy * gy;
+    let reach = r * r;
+    reach < near
 }
 
 // cross > r * L, with L the root of pp rounded up: just where pp is at most the square of (cross - 1) / r. low is a whole number up to

@@ -20,17 +20,17 @@ excess-requires c κs = (sized 1073741824 (made c .ax-made) tt, sized 1073741824
 excess-requires-2 : tie.Need-excess-requires-2
 excess-requires-2 c κs = (sized 1073741824 (made (c .before) .ay-made) tt, sized 1073741824 (made (c .before) .ey-made) tt)
 
-mul-result : tie.Need-mul-result
-mul-result c = (times (made (c .before .before) .r-made) (made (c .before .before) .r-made) tt) .fits
+mul-near : tie.Need-mul-near
+mul-near c = (times (gx (c .before)) (gx (c .before)) tt) .fits
 
-mul-result-2 : tie.Need-mul-result-2
-mul-result-2 c = (times (gx (c .before)) (gx (c .before)) tt) .fits
+mul-near-2 : tie.Need-mul-near-2
+mul-near-2 c = (times (gy c) (gy c) tt) .fits
 
-mul-result-3 : tie.Need-mul-result-3
-mul-result-3 c = (times (gy c) (gy c) tt) .fits
+add-near : tie.Need-add-near
+add-near c = (plus (times (gx (c .before)) (gx (c .before)) tt) (times (gy c) (gy c) tt) tt) .fits
 
-add-result : tie.Need-add-result
-add-result c = (plus (times (gx (c .before)) (gx (c .before)) tt) (times (gy c) (gy c) tt) tt) .fits
+mul-reach : tie.Need-mul-reach
+mul-reach c = (times (made (c .before .before) .r-made) (made (c .before .before) .r-made) tt) .fits
 
 returns : tie.Need-returns
 returns c = rw (back (times (made (c .before .before) .r-made) (made (c .before .before) .r-made) tt), back (plus (times (gx (c .before)) (gx (c .before)) tt) (times (gy c) (gy c) tt) tt))
@@ -41,8 +41,8 @@ apart-spec =
     (tie.spec
     excess-requires
     excess-requires-2
-    mul-result
-    mul-result-2
-    mul-result-3
-    add-result
+    mul-near
+    mul-near-2
+    add-near
+    mul-reach
     returns)

@@ -3,6 +3,7 @@ use Rattle.integers.specs.Signed.{Made, called, arg, arg-pos, lit, times, minus
 use lib.IntN.{pos, natAbs, _-ℤ_, _*ℤ_}
 use mathlib.Core.Path.{_≡_, _∙_, ap}
 use Prim.Native.Nat.{ℕ}
+use native.Mathlib.Omega.{arith}
 use lib.Signed.{ltZ, quotZ, pos-natAbs}
 use Rattle.model.specs.Roots.{root}
 use Rattle.strip_tests.specs.PlainTests.{capBy}
@@ -22,7 +23,7 @@ module _ (c : tie.Start) where
   low = arg-pos (c .pre .low-nonneg) (c .pre .low-size) (c .fits .low)
 
   pp : Made (c .args .pp) (pos (natAbs (c .args .pp))) 1152921504606846976
-  pp = arg-pos (c .pre .pp-nonneg) (c .pre .pp-size) (c .fits .pp)
+  pp = arg-pos (c .pre .pp-nonneg) (omega (arith, c .pre .pp-size)) (c .fits .pp)
 
   -- r · pos (root ..) with r as it came
   as-r : (m : ℕ) → ltZ (pos (natAbs (c .args .r)) *ℤ pos m) (c .args .cross) ≡ ltZ (c .args .r *ℤ pos m) (c .args .cross)
@@ -31,7 +32,7 @@ module _ (c : tie.Start) where
 known : (c : tie.Then1) → Asked (c .before .args .cross) (natAbs (c .before .args .r)) (natAbs (c .before .args .pp))
 known c =
     let s = c .before in
-    asked (s .args .cross) (natAbs (s .args .r)) (natAbs (s .args .pp)) (natAbs (s .args .low)) (s .pre .cross-reach .r-above) (s .pre .pp-size) (test-lt (times (r s) (low s) tt) (cross s) (c .if1 .taken))
+    asked (s .args .cross) (natAbs (s .args .r)) (natAbs (s .args .pp)) (natAbs (s .args .low)) (s .pre .cross-reach .r-above) (omega (arith, s .pre .pp-size)) (test-lt (times (r s) (low s) tt) (cross s) (c .if1 .taken))
 
 k : (c : tie.After-cap) → Made (c .cap .result) (capBy (quotZ (c .before .before .args .cross -ℤ pos 1) (pos (natAbs (c .before .before .args .r))))) 1073741824
 k c = let s = c .before .before in called (rw (back (over (minus (cross s) (lit 1 tt) tt) (r s) tt)) at (c .cap .ensures)) (known (c .before) .size) tt

@@ -1,4 +1,5 @@
 -- `strip_tests::slanted` meets its contract. Assumes nothing.
+use native.Mathlib.Omega.{arith}
 use lib.Dec.{T}
 use lib.Signed.{nonNeg}
 use Rattle.model.specs.Explore.{squares}
@@ -82,7 +83,7 @@ beyond-requires c κs =
       low-size = (widen 1073741824 (least c) tt) .within;
       low-nonneg = l .is-nonneg;
       pp-nonneg = nonneg (s .args .p) (s .args .q);
-      pp-size = (widen 1152921504606846976 (plus (times (made s .p-made) (made s .p-made) tt) (times (made s .q-made) (made s .q-made) tt) tt) tt) .within;
+      pp-size = omega (arith, (plus (times (made s .p-made) (made s .p-made) tt) (times (made s .q-made) (made s .q-made) tt) tt) .within);
       low-under = l .is-low;
     })
 
