@@ -37,7 +37,9 @@ fn enough_for(s: i64, r: i64) -> u8
     requires sizes { ⌜ (natAbs s ≤ 134217728) × T (nonNeg s) × (natAbs r ≤ 16777216) ⌝ }
     ensures stop { λ e. ⌜ ((x y : ℤ) → Enough x y s r e) ⌝ }
 {
-    if r * r <= 2 * s * s { 1 } else { 2 }
+    let near = r * r;
+    let wide = 2 * s * s;
+    if near <= wide { 1 } else { 2 }
 }
 
 // the probe of the cell at (x, y) of half side s

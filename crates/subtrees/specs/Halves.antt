@@ -44,6 +44,10 @@ count-in t = ap (λ (l : List ℤ). getD l countPlace (pos 0)) (sym (append-nil 
 pub counted : {l : List ℤ} → TreeOf l → T (nonNeg (getD l countPlace (pos 0)))
 counted {l} h = rw (h .is, count-in (h .tree)) tt
 
+-- a tree has a node
+pub counted-some : {l : List ℤ} → TreeOf l → 1 ≤ natAbs (getD l countPlace (pos 0))
+counted-some {l} h = rw (h .is, count-in (h .tree)) (size-pos (h .tree))
+
 -- ---- two halves. The left half's count stands a node's width behind the first node's
 pub record Halves (l : List ℤ) (left right : Tree) : Type 0 where
   pub long : length l ≡ width + width * size left + width * size right

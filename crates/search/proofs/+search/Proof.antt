@@ -14,7 +14,7 @@ use Rattle.strip_tests.specs.PlainTests.{code}
 use Rattle.model.specs.Store.{width, flatten}
 use Rattle.ranges.specs.Sizes.{AllSized}
 use Rattle.nodes.specs.Places.{countPlace, stripIn}
-use Rattle.subtrees.specs.Halves.{front, first-sized, counted, split, left-counted, Read, read, below}
+use Rattle.subtrees.specs.Halves.{front, first-sized, counted, counted-some, split, left-counted, Read, read, below}
 use Rattle.search.specs.Probes.{judgedBy, Enough}
 use Rattle.search.proofs.Finds.{join-is, most, closed, one, both, stop}
 use Prim.Native.Nat.{ℕ, _<_}
@@ -80,13 +80,17 @@ search-own-requires : (t : ℕ) → search-lts.Need-own-requires (callees t) (se
 search-own-requires t c κs = (front (c .pre .1 .0), first-sized (c .pre .1 .0), c .pre .1 .1)
 
 search-returns : (t : ℕ) → search-lts.Need-returns (callees t) (search-at t) search′.Post
-search-returns t c = λ u f e. let s = c .before .before in closed (by t s) (list t s) (c .before .own .result) (own-is t (c .before)) (c .if1 .taken) u e
+search-returns t c = λ u f e. let s = c .before .before in closed (by t s) (list t s) (c .before .own .result) (own-is t (c .before)) (λ i. omega (arith, c .if1 .taken, i)) u e
 
 search-count-at-requires : (t : ℕ) → search-lts.Need-count-at-requires (callees t) (search-at t) search′.Post
 search-count-at-requires t c κs = let s = c .before .before in (front (s .pre .1 .0), counted (s .pre .1 .0))
 
 search-returns-2 : (t : ℕ) → search-lts.Need-returns-2 (callees t) (search-at t) search′.Post
-search-returns-2 t c = λ u f e. let s = c .before .before .before .before in one (by t s) (list t s) (maybe-is t (c .before .before)) (omega (arith, c .before .count-at .ensures, c .if2 .taken)) u e
+search-returns-2 t c = λ u f e.
+    let s = c .before .before .before .before in
+    let m = c .before .before in
+    let o = one (by t s) (list t s) (maybe-is t m) (omega (arith, c .before .count-at .ensures, c .if2 .taken, counted-some (s .pre .1 .0))) u e in
+    omega (arith, o, own-is t (m .before), m .if1 .left)
 
 search-count-at-requires-2 : (t : ℕ) → search-lts.Need-count-at-requires-2 (callees t) (search-at t) search′.Post
 search-count-at-requires-2 t c κs = left-counted (split (c .before .before .before .before .pre .1 .0) (not-one t c))
@@ -110,7 +114,7 @@ search-search-requires : (t : ℕ) → search-lts.Need-search-requires (callees 
 search-search-requires t c κs = let k = counts t (c .before) in (below (k .left) _ t (k .has .part-left) (omega (arith, k .has .k-is)), (record { tree = k .left; is = k .has .part-left; sized = k .left-sized }, c .before .before .before .before .before .before .pre .1 .1))
 
 search-returns-3 : (t : ℕ) → search-lts.Need-returns-3 (callees t) (search-at t) search′.Post
-search-returns-3 t c = let m = c .before .before .before in let s = c .before .before .before .before .before .before .before .before in both (by t s) (list t s) (m .count-at2 .result) (c .before .search .result) (maybe-is t (m .before .before .before)) (not-one t (m .before)) (m .count-at2 .ensures) (λ l r fl fr el er. stop (explore (by t s) l) (explore (by t s) r) (c .before .search .result) (s .args .probe .enough) (left-is t (c .before) l fl el) (c .if3 .taken) (at-most t s r fr))
+search-returns-3 t c = let m = c .before .before .before in let s = c .before .before .before .before .before .before .before .before in both (by t s) (list t s) (m .count-at2 .result) (c .before .search .result) (maybe-is t (m .before .before .before)) (not-one t (m .before)) (m .count-at2 .ensures) (λ l r fl fr el er. stop (explore (by t s) l) (explore (by t s) r) (c .before .search .result) (s .args .probe .enough) (left-is t (c .before) l fl el) (omega (arith, c .if3 .taken)) (at-most t s r fr))
 
 search-mul-search : (t : ℕ) → search-lts.Need-mul-search (callees t) (search-at t) search′.Post
 search-mul-search t c = let k = counts t (c .before .before .before) in omega (arith, k .has .long)
