@@ -51,7 +51,7 @@ begin store count ts list h = record { done = none; ahead = record { begins = h 
 pub record Step (store : List ℤ) (ts : List Tree) (list : List ℕ) (a e : ℕ) : Type 0 where
   pub tree : Tree
   pub at : At store a tree
-  pub listed : (n : ℕ) → n ≡ natAbs (getD store (a + countPlace) (pos 0)) → Listed store ts (set list e a) (a + width * n) (e + 1)
+  pub listed : (n : ℕ) → n ≡ natAbs (getD store (a + countPlace) (pos 0)) → (z : ℕ) → z ≡ a + width * n → Listed store ts (set list e a) z (e + 1)
 
 pub step : (store : List ℤ) (ts : List Tree) (list : List ℕ) (a e : ℕ) → e < length ts → e < length list → Listed store ts list a e → Step store ts list a e
 step store ts list a e l m h =
@@ -61,14 +61,14 @@ step store ts list a e l m h =
     record {
       tree = x .tree;
       at = at;
-      listed = λ n k.
+      listed = λ n k z f.
           let i : n ≡ size (x .tree) = here store a n (x .tree) at k .n-is in
           let d : Starts store (take (suc e) (set list e a)) (take (suc e) ts) =
           subst (λ us. Starts store (take (suc e) (set list e a)) us) (sym (x .sooner))
           (subst (λ ps. Starts store ps (take e ts ++ (x .tree ∷ []))) (sym (take-suc-set list e a m)) (starts-snoc (h .done) at)) in
           let b : Ahead store (a + width * n) (drop (suc e) ts) = subst (λ k. Ahead store (a + width * k) (drop (suc e) ts)) (sym i) (next-ahead store a (x .tree) (drop (suc e) ts) next) in
           let r : Listed store ts (set list e a) (a + width * n) (suc e) = record { done = d; ahead = b } in
-          subst (λ k. Listed store ts (set list e a) (a + width * n) k) (sym (add-one e)) r;
+          subst (λ z. Listed store ts (set list e a) z (e + 1)) (sym f) (subst (λ k. Listed store ts (set list e a) (a + width * n) k) (sym (add-one e)) r);
     }
 
 pub finish : (store : List ℤ) (ts : List Tree) (list : List ℕ) (a e : ℕ) → length ts ≡ e → Listed store ts list a e → Starts store (take e list) ts

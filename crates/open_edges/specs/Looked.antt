@@ -138,18 +138,18 @@ module _ (store : List ℤ) (v : Strip → Answer) (ps : List ℕ) where
       let e : take k ts ≡ ts = take-all k ts (omega (arith, starts-long s)) in
       subst (λ us. (exploreAll v us ≡ inside → ⊥) × Starts store (take kept kp) (opened v us)) e (h .sofar ts s .not-inside, h .sofar ts s .are-kept)
 
--- ---- the same, for a place that was read, and numbers as the code counts them
+-- ---- the same, for a place that was read, and numbers as the code counts them: n is the next place's
 module _ (store : List ℤ) (v : Strip → Answer) (ps : List ℕ) (k a : ℕ) (l : k < length ps) (e : getD ps k 0 ≡ a) where
   back : (t : Tree) → At store (getD ps k 0) t → At store a t
   back t h = subst (λ b. At store b t) e h
 
-  pub next-away : (kp : List ℕ) (kept : ℕ) → ((t : Tree) → At store a t → explore v t ≡ away) → Looked store v ps kp kept k → Looked store v ps kp kept (k + 1)
-  next-away kp kept f h = subst (λ n. Looked store v ps kp kept n) (sym (add-one k)) (step-away store v ps kp kept k l (λ t g. f t (back t g)) h)
+  pub next-away : (kp : List ℕ) (kept : ℕ) {n : ℕ} → n ≡ k + 1 → ((t : Tree) → At store a t → explore v t ≡ away) → Looked store v ps kp kept k → Looked store v ps kp kept n
+  next-away kp kept i f h = subst (λ n. Looked store v ps kp kept n) (sym (i ∙ add-one k)) (step-away store v ps kp kept k l (λ t g. f t (back t g)) h)
 
-  pub next-maybe : (kp : List ℕ) (kept : ℕ) → kept < length kp → ((t : Tree) → At store a t → explore v t ≡ maybe) → Looked store v ps kp kept k → Looked store v ps (set kp kept a) (kept + 1) (k + 1)
-  next-maybe kp kept m f h =
-      subst (λ b. Looked store v ps (set kp kept b) (kept + 1) (k + 1)) e
-      (subst (λ n. Looked store v ps (set kp kept (getD ps k 0)) (kept + 1) n) (sym (add-one k))
+  pub next-maybe : (kp : List ℕ) (kept : ℕ) {n : ℕ} → n ≡ k + 1 → kept < length kp → ((t : Tree) → At store a t → explore v t ≡ maybe) → Looked store v ps kp kept k → Looked store v ps (set kp kept a) (kept + 1) n
+  next-maybe kp kept {n} i m f h =
+      subst (λ b. Looked store v ps (set kp kept b) (kept + 1) n) e
+      (subst (λ n. Looked store v ps (set kp kept (getD ps k 0)) (kept + 1) n) (sym (i ∙ add-one k))
       (subst (λ n. Looked store v ps (set kp kept (getD ps k 0)) n (suc k)) (sym (add-one kept)) (step-maybe store v ps kp kept k l m (λ t g. f t (back t g)) h)))
 
   pub last-inside : ((t : Tree) → At store a t → explore v t ≡ inside) → (ts : List Tree) → Starts store ps ts → exploreAll v ts ≡ inside

@@ -77,7 +77,8 @@ pub fn list_starts(store: &[i32], count: usize, list: &mut [usize; 64])
     let mut e: usize = 0;
     while e < count {
         list[e] = at;
-        at += WIDTH * nodes::count_at(store, at + COUNT);
+        let n = nodes::count_at(store, at + COUNT);
+        at += WIDTH * n;
         e += 1;
     }
 }

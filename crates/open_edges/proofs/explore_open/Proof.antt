@@ -1,5 +1,5 @@
 -- `open_edges::explore_open` meets its contract: k trees on, none is inside and those not away are kept. Assumes nothing.
-use mathlib.Core.Bool.{Bool, true, false}
+use mathlib.Core.Bool.{cond}
 use mathlib.Core.List.{List}
 use lib.Seq.{length-take-le, getD-take}
 use Rattle.model.specs.Strips.{Strip}
@@ -7,8 +7,9 @@ use Rattle.model.specs.Trees.{Tree}
 use Rattle.verdicts.specs.AnswerCases.{clash}
 use Rattle.inheritance.specs.Edges.{opened}
 use Prim.Native.Nat.{ℕ, _-_, _≤_, _<_}
-use mathlib.Core.Path.{_≡_, _∙_}
+use mathlib.Core.Path.{_≡_, ap, _∙_}
 use native.Mathlib.Omega.{arith}
+use borrow.Author.Tests.{ltb-true}
 use lib.ListN.{length, take, getD, length-set}
 use Rattle.model.specs.Explore.{Answer, inside, explore, exploreAll}
 use Rattle.search.specs.Probes.{judgedBy}
@@ -91,8 +92,8 @@ loop-again : tie.Need-loop-again Inv-loop μ-loop
 loop-again c =
     let s = c .before .before .before .before .before .before in let l = c .before .before .before .before .before .loop in (
       omega (arith, c .before .before .before .before .loop-test .taken),
-      omega (arith, l .inv .1),
-      next-maybe (c .before .before .before .before .before .before .args .store .now) (by (c .before .before .before .before .before .before)) (places (c .before .before .before .before .before .before)) (c .before .before .before .before .before .loop .k) (getD (c .before .before .before .before .before .before .args .list .now) (c .before .before .before .before .before .loop .k) 0) (below (c .before .before .before .before)) (read (c .before .before .before .before)) (l .keep) (l .kept) (omega (arith, s .pre .0, c .before .before .before .before .loop-test .taken, l .inv .1, keep-long (c .before .before .before .before .before))) (λ t h. is-maybe (explore (by s) t) (c .before .before .ask .result) (c .before .before .ask .ensures t h) (omega (arith, c .before .before .ask .ensures t h, code-few (explore (by s) t), c .before .if1 .left, c .if2 .taken))) (l .inv .2),
+      omega (arith, l .inv .1, c .before .before .before .before .loop-test .taken),
+      next-maybe (c .before .before .before .before .before .before .args .store .now) (by (c .before .before .before .before .before .before)) (places (c .before .before .before .before .before .before)) (c .before .before .before .before .before .loop .k) (getD (c .before .before .before .before .before .before .args .list .now) (c .before .before .before .before .before .loop .k) 0) (below (c .before .before .before .before)) (read (c .before .before .before .before)) (l .keep) (l .kept) (omega arith) (omega (arith, s .pre .0, c .before .before .before .before .loop-test .taken, l .inv .1, keep-long (c .before .before .before .before .before))) (λ t h. is-maybe (explore (by s) t) (c .before .before .ask .result) (c .before .before .ask .ensures t h) (omega (arith, c .before .before .ask .ensures t h, code-few (explore (by s) t), c .before .if1 .left, c .if2 .taken))) (l .inv .2),
       length-set (l .keep) (l .kept) _ ∙ l .inv .3,
     )
 
@@ -104,20 +105,16 @@ loop-again-2 : tie.Need-loop-again-2 Inv-loop μ-loop
 loop-again-2 c =
     let s = c .before .before .before .before .before .before in let l = c .before .before .before .before .before .loop in (
       omega (arith, c .before .before .before .before .loop-test .taken),
-      omega (arith, l .inv .1),
-      next-away (c .before .before .before .before .before .before .args .store .now) (by (c .before .before .before .before .before .before)) (places (c .before .before .before .before .before .before)) (c .before .before .before .before .before .loop .k) (getD (c .before .before .before .before .before .before .args .list .now) (c .before .before .before .before .before .loop .k) 0) (below (c .before .before .before .before)) (read (c .before .before .before .before)) (l .keep) (l .kept) (λ t h. is-away (explore (by s) t) (c .before .before .ask .result) (c .before .before .ask .ensures t h) (c .before .if1 .left) (λ e. omega (arith, e, c .if2 .left))) (l .inv .2),
+      omega (arith, l .inv .1, c .before .before .before .before .loop-test .taken),
+      next-away (c .before .before .before .before .before .before .args .store .now) (by (c .before .before .before .before .before .before)) (places (c .before .before .before .before .before .before)) (c .before .before .before .before .before .loop .k) (getD (c .before .before .before .before .before .before .args .list .now) (c .before .before .before .before .before .loop .k) 0) (below (c .before .before .before .before)) (read (c .before .before .before .before)) (l .keep) (l .kept) (omega arith) (λ t h. is-away (explore (by s) t) (c .before .before .ask .result) (c .before .before .ask .ensures t h) (c .before .if1 .left) (λ e. omega (arith, e, c .if2 .left))) (l .inv .2),
       l .inv .3,
     )
-
--- after the last edge no cell is inside
-never : {X : Type 0} → _≡_ {A = Bool} false true → X
-never e = clash (cc)
 
 returns-2 : tie.Need-returns-2 Inv-loop μ-loop
 returns-2 c =
     let s = c .before .before in let l = c .before .loop in
     let z : (ts : List Tree) → Starts (s .args .store .now) (places s) ts → (exploreAll (by s) ts ≡ inside → ⊥) × Starts (s .args .store .now) (take (l .kept) (l .keep)) (opened (by s) ts) = finish (s .args .store .now) (by s) (places s) (l .keep) (l .kept) (l .k) (omega (arith, places-long s, l .inv .0)) (l .inv .2) in
-    (l .inv .3, (never, λ e. record { fewer = omega (arith, l .inv .0, l .inv .1); not-inside = λ ts h. z ts h .0; still = λ ts h. z ts h .1 }))
+    (l .inv .3, ((λ e. absurd (omega (arith, ltb-true, ap {B = ℕ} (λ b. cond b 1 0) e, l .inv .0, l .inv .1, s .pre .0))), λ e. record { fewer = omega (arith, l .inv .0, l .inv .1); not-inside = λ ts h. z ts h .0; still = λ ts h. z ts h .1 }))
 
 pub explore-open-spec : {M : Type 1} → statement M
 explore-open-spec =

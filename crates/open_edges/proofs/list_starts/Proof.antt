@@ -61,7 +61,7 @@ loop-less c = omega (arith, c .before .loop-test .taken)
 loop-again : tie.Need-loop-again Inv-loop μ-loop
 loop-again c =
     let l = c .before .before .loop in
-    (omega (arith, c .before .loop-test .taken), length-set (l .list) (l .e) (l .at) ∙ l .inv .1, λ ts h. stepped (c .before) ts h .listed (c .count-at .result) (c .count-at .ensures))
+    (omega (arith, c .before .loop-test .taken), length-set (l .list) (l .e) (l .at) ∙ l .inv .1, λ ts h. stepped (c .before) ts h .listed (c .count-at .result) (c .count-at .ensures) _ (omega arith))
 
 returns : tie.Need-returns Inv-loop μ-loop
 returns c =
