@@ -13,7 +13,7 @@ use Rattle.model.specs.Store.{width, flatten}
 use Rattle.model.specs.Explore.{Cell}
 use Rattle.model.specs.Distance.{leaves}
 use Rattle.nodes.specs.Places.{countPlace}
-use Rattle.subtrees.specs.Halves.{front, first-sized, counted, split, left-counted, Read, read, below}
+use Rattle.subtrees.specs.Halves.{front, first-sized, counted, counted-some, split, left-counted, counted-some, Read, read, below}
 use Rattle.boxes.specs.Ranges.{pointAt}
 use Rattle.distance.specs.Lookups.{BoundsOf}
 use Rattle.distance.proofs.Finds.{at-leaf, at-node, both}
@@ -80,7 +80,7 @@ tree-bounds-returns : (t : ℕ) → tree-bounds-lts.Need-returns (callees t) (tr
 tree-bounds-returns t c = λ u e.
     let s = c .before .before .before in
     let r = rw (toZ-ofZ (s .fits .x), toZ-ofZ (s .fits .y)) at (c .leaf-bounds .ensures) in
-    at-leaf (point t s) (c .leaf-bounds .result) (list t s) (omega (arith, c .before .before .count-at .ensures, c .before .if1 .taken)) (r .0) (r .1) u e
+    at-leaf (point t s) (c .leaf-bounds .result) (list t s) (omega (arith, c .before .before .count-at .ensures, c .before .if1 .taken, counted-some (s .pre .1 .0))) (r .0) (r .1) u e
 
 tree-bounds-count-at-requires-2 : (t : ℕ) → tree-bounds-lts.Need-count-at-requires-2 (callees t) (tree-bounds-at t) tree-bounds.Post
 tree-bounds-count-at-requires-2 t c κs = left-counted (split (c .before .before .pre .1 .0) (not-one t c))
