@@ -1,5 +1,5 @@
 -- What the builder leaves after both halves. Assumes nothing.
-use mathlib.Core.Path.{_≡_, sym, ap, _∙_}
+use mathlib.Core.Path.{_≡_, sym, ap, _∙_, subst}
 use mathlib.Core.List.{List, _++_, append-assoc}
 use Prim.Native.Nat.{ℕ, suc, _+_, _*_, _-_, _≤_}
 use native.Mathlib.Omega.{arith}
@@ -12,6 +12,7 @@ use Rattle.model.specs.Strips.{Strip}
 use Rattle.model.specs.Trees.{Tree}
 use Rattle.model.specs.Store.{width, size, numbers, flatten}
 use Rattle.subtrees.specs.Preorder.{length-flatten}
+use Rattle.subtrees.specs.Subtrees.{subtree, Walkable}
 
 two′ : (p a b t : List ℤ) (i j : ℕ) → length p ≡ width → length (p ++ a) ≡ i →
     drop width (take i (p ++ (a ++ t)) ++ (b ++ drop j (drop i (p ++ (a ++ t))))) ≡ (a ++ b) ++ drop j t
@@ -46,3 +47,14 @@ both s u v l r m e h n p q =
 -- a node's numbers by its strip
 pub put-eq : {s u : Strip} (n : ℕ) (l : List ℤ) → s ≡ u → numbers s n l ≡ numbers u n l
 put-eq {s} {u} n l e = ap (λ (z : Strip). numbers z n l) e
+
+-- ---- a piece by its depth d and its place k, where the code names them e and i
+module _ (T : ℤ) (s : ℕ → ℕ → Strip) (d k : ℕ) where
+  pub same-walk : {e i n : ℕ} → Walkable T s d k n → e ≡ d → i ≡ k → Walkable T s e i n
+  same-walk {i = i} {n} w p q = subst (λ e. Walkable T s e i n) (sym p) (subst (λ i. Walkable T s d i n) (sym q) w)
+
+  abbrev pub Built : ℕ → ℕ → ℕ → List ℤ → List ℤ → Type 0
+  Built e i r new old = (r ≡ size (subtree T s e i)) × (new ≡ flatten (subtree T s e i) ++ drop (width * size (subtree T s e i)) old)
+
+  pub same-built : (e i r : ℕ) (new old : List ℤ) → Built e i r new old → e ≡ d → i ≡ k → Built d k r new old
+  same-built e i r new old b p q = subst (λ i. Built d i r new old) q (subst (λ e. Built e i r new old) p b)

@@ -14,7 +14,7 @@ use Rattle.subtrees.specs.Preorder.{size-pos}
 use Rattle.subtrees.specs.Subtrees.{subtree, left-half, right-half, place-most, at-short, few, Forked, forked}
 use Rattle.nodes.specs.Structs.{stripOf}
 use Rattle.strips.specs.Structs.{stripsOf}
-use Rattle.strip_trees.proofs.Halves.{both, put-eq}
+use Rattle.strip_trees.proofs.Halves.{both, put-eq, same-walk, same-built}
 use Prim.Native.Nat.{ℕ, _<_}
 use borrow.Fn.Kinds.{In}
 use borrow.Fn.PlainCycle.{Measures, is, falls, and}
@@ -67,7 +67,7 @@ left-is : (t : ℕ) (c : build-lts.After-build (callees t) (build-at t) build.Po
 left-is t c = let s = c .before .before .before .before .before .before in (rw (toZ-ofZ (s .fits .grain)) at (c .build .ensures)) .0
 
 right-is : (t : ℕ) (c : build-lts.After-build2 (callees t) (build-at t) build.Post) → c .build2 .result ≡ size (right-of t (c .before .before .before .before .before .before .before .before .before))
-right-is t c = let s = c .before .before .before .before .before .before .before .before .before in (rw (toZ-ofZ (s .fits .grain)) at (c .build2 .ensures)) .0
+right-is t c = let s = c .before .before .before .before .before .before .before .before .before in same-built (s .args .grain) (stripsOf (s .args .shape)) (s .args .d + 1) (2 * s .args .k + 1) _ _ _ _ _ (rw (toZ-ofZ (s .fits .grain)) at (c .build2 .ensures)) (omega arith) (omega arith) .0
 
 few-at : (t : ℕ) (c : build-lts.After-s3 (callees t) (build-at t) build.Post) → 1 + c .before .before .before .before .build .result + c .before .build2 .result < 4096
 few-at t c =
@@ -160,7 +160,7 @@ build-build-requires-2 t c κs =
     let p = s .pre .1 in
     let f = fork-at t e in
     rw (toZ-ofZ (s .fits .grain))
-    (omega (arith, s .pre .0, p .1 .piece .depth, f .more), (p .0, record { piece = right-half (p .1 .piece) (f .more); short = f .right-ok; fits = rw (tail-mid (width + width * b .build .result) _) (simp length-drop (omega (arith, room t e, left-is t b, c .before .s2 .given))) }))
+    (omega (arith, s .pre .0, p .1 .piece .depth, f .more), (p .0, same-walk (s .args .grain) (stripsOf (s .args .shape)) (s .args .d + 1) (2 * s .args .k + 1) (record { piece = right-half (p .1 .piece) (f .more); short = f .right-ok; fits = rw (tail-mid (width + width * b .build .result) _) (simp length-drop (omega (arith, room t e, left-is t b, c .before .s2 .given))) }) (omega arith) (omega arith)))
 
 build-add-nodes : (t : ℕ) → build-lts.Need-add-nodes (callees t) (build-at t) build.Post
 build-add-nodes t c = omega (arith, few-at t c)
@@ -188,7 +188,7 @@ build-returns-2 t c =
     let r = right-of t s in
     let n : 1 + b .build .result + q .build2 .result ≡ suc (size l + size r) = omega (arith, left-is t b, right-is t q) in
     let g = rw (toZ-ofZ (s .fits .grain)) at (b .build .ensures) in
-    let h = rw (toZ-ofZ (s .fits .grain)) at (q .build2 .ensures) in
+    let h = same-built (s .args .grain) (stripsOf (s .args .shape)) (s .args .d + 1) (2 * s .args .k + 1) _ _ _ _ _ (rw (toZ-ofZ (s .fits .grain)) at (q .build2 .ensures)) (omega arith) (omega arith) in
     let w = both (s .args .s .now) (b .build .last .0) (q .build2 .last .0) l r (b .build .result) (left-is t b) (room t e) (q .before .before .s2 .given .1) (g .1) (h .1) in
     rw (fork-at t e .is) (n, c .before .put2 .ensures ∙ rw (n, w) (put-eq (suc (size l + size r)) ((flatten l ++ flatten r) ++ drop (width * suc (size l + size r)) (s .args .s .now)) (strip-is t a)))
 

@@ -139,7 +139,7 @@ nodes-of-returns-5 t c =
     let b = c .before in
     let a = b .before .before in
     let s = a .before .before .before .before in
-    rw (node-at t (a .before)) (sym (count-both (stripsOf (s .args .shape) (s .args .d) (s .args .k)) (left-of t s) (right-of t s) (λ e. b .before .if3 .left (left-is t a ∙ e)) (λ e. c .if4 .left (right-is t b ∙ e)) ∙ rw (left-is t a, right-is t b)))
+    rw (node-at t (a .before)) (sym (count-both (stripsOf (s .args .shape) (s .args .d) (s .args .k)) (left-of t s) (right-of t s) (λ e. b .before .if3 .left (left-is t a ∙ e)) (λ e. c .if4 .left (right-is t b ∙ e)) ∙ omega (arith, left-is t a, right-is t b)))
 
 pub +nodes-of-spec : {M : Type 1} → statement M
 +nodes-of-spec = close μ-nodes-of λ t. nodes-of-lts.spec (callees t)
