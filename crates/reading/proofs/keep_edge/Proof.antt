@@ -1,6 +1,6 @@
 -- `reading::keep_edge` meets its contract. The invariant: the first j numbers of the line are in their places. Assumes nothing.
 use mathlib.Core.Path.{_≡_}
-use Prim.Native.Nat.{_-_, _*_, _≤_}
+use Prim.Native.Nat.{_-_, _*_, _≤_, _<_}
 use native.Mathlib.Omega.{arith}
 use lib.Seq.{paste-zero, paste}
 use borrow.Author.Needs.{needs}
@@ -15,7 +15,7 @@ abbrev μ-loop : tie.MeasureT-loop
 μ-loop values₀ count line base j₀ values j = 8 - j
 
 returns : tie.Need-returns Inv-loop μ-loop
-returns c = search (needs, edges.all-kept)
+returns c = let h : 64 ≤ c .before .args .count = omega arith in search (needs, edges.all-kept)
 
 mul-base : tie.Need-mul-base Inv-loop μ-loop
 mul-base c = omega arith
@@ -45,10 +45,10 @@ loop-less : tie.Need-loop-less Inv-loop μ-loop
 loop-less c = omega arith
 
 loop-again : tie.Need-loop-again Inv-loop μ-loop
-loop-again c = (search (needs, edges.kept-more), omega arith)
+loop-again c = let h : c .before .before .before .before .args .count < 64 = omega arith in (search (needs, edges.kept-more), omega arith)
 
 returns-2 : tie.Need-returns-2 Inv-loop μ-loop
-returns-2 c = search (needs, edges.kept-now)
+returns-2 c = let h : c .before .before .before .args .count < 64 = omega arith in search (needs, edges.kept-now)
 
 pub keep-edge-spec : {M : Type 1} → statement M
 keep-edge-spec =
