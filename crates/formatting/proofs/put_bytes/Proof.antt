@@ -1,5 +1,5 @@
 use mathlib.Core.Path.{_≡_, refl}
-use Prim.Native.Nat.{_-_, _≤_}
+use Prim.Native.Nat.{_-_, _≤_, _<_}
 use native.Mathlib.Omega.{arith}
 use lib.ListN.{length}
 use lib.Seq.{paste, paste-zero}
@@ -33,7 +33,9 @@ loop-less : tie.Need-loop-less Inv-loop μ-loop
 loop-less c = omega arith
 
 loop-again : tie.Need-loop-again Inv-loop μ-loop
-loop-again c = (search (needs, copies.copied), omega arith, search needs)
+loop-again c =
+    let h : c .before .before .loop .i < length (c .before .before .before .args .text .now) = omega arith in
+    (search (needs, copies.copied), omega arith, search needs)
 
 add-result : tie.Need-add-result Inv-loop μ-loop
 add-result c = omega arith
@@ -42,7 +44,7 @@ same-length : tie.Need-same-length Inv-loop μ-loop
 same-length c = search needs
 
 returns : tie.Need-returns Inv-loop μ-loop
-returns c = search (needs, copies.all-copied)
+returns c = let h : length (c .before .before .args .text .now) ≤ c .before .loop .i = omega arith in search (needs, copies.all-copied)
 
 pub put-bytes-spec : {M : Type 1} → statement M
 put-bytes-spec =
