@@ -1,6 +1,6 @@
 -- `writing::write` meets its contract. Assumes nothing.
 use mathlib.Core.Path.{_≡_, sym}
-use Prim.Native.Nat.{_≤_}
+use Prim.Native.Nat.{_≤_, _<_}
 use native.Mathlib.Omega.{arith}
 use lib.ListN.{length}
 use lib.Seq.{length-take-le}
@@ -11,6 +11,10 @@ use Rattle.writing.proofs.write.Tie as tie
 
 judge-requires : tie.Need-judge-requires
 judge-requires c κs = search needs
+
+-- a job that was not refused
+accepted : (c : tie.Else1) → c .before .judge .result ≡ 0
+accepted c = omega (arith, c .if1 .left)
 
 returns : tie.Need-returns
 returns c =
@@ -24,7 +28,10 @@ put-sheet-requires : tie.Need-put-sheet-requires
 put-sheet-requires c κs = search needs
 
 returns-2 : tie.Need-returns-2
-returns-2 c = (search (needs, sheets.no-space), search (needs, sheets.no-space-left))
+returns-2 c =
+    let z = accepted (c .before .before .before .before) in
+    let h : length (c .before .before .before .before .before .before .before .args .out .now) < c .before .before .put-sheet .result = omega (arith, c .if2 .taken) in
+    (search (needs, sheets.no-space), search (needs, sheets.no-space-left))
 
 array-share-prefix-text : tie.Need-array-share-prefix-text
 array-share-prefix-text c = search needs
@@ -36,13 +43,19 @@ slice-aggregate-put-bytes c =
     search (needs, sym, length-take-le, h)
 
 put-bytes-requires : tie.Need-put-bytes-requires
-put-bytes-requires c κs = search (needs, sheets.made-fits)
+put-bytes-requires c κs =
+    let z = accepted (c .before .before .before .before .before .before) in
+    let h : c .before .before .before .before .put-sheet .result ≤ length (c .before .before .before .before .before .before .before .before .before .args .out .now) = omega (arith, c .before .before .if2 .left) in
+    search (needs, sheets.made-fits)
 
 same-length : tie.Need-same-length
 same-length c = search needs
 
 returns-3 : tie.Need-returns-3
-returns-3 c = (search (needs, sheets.done), search (needs, sheets.done-left))
+returns-3 c =
+    let z = accepted (c .before .before .before .before .before .before .before .before .before) in
+    let h : c .before .before .before .before .before .before .before .put-sheet .result ≤ length (c .before .before .before .before .before .before .before .before .before .before .before .before .args .out .now) = omega (arith, c .before .before .before .before .before .if2 .left) in
+    (search (needs, sheets.done), search (needs, sheets.done-left))
 
 pub write-spec : {M : Type 1} → statement M
 write-spec =
