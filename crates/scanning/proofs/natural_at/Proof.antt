@@ -23,7 +23,7 @@ no-natural-requires : tie.Need-no-natural-requires Inv-loop μ-loop
 no-natural-requires c κs = tt
 
 returns : tie.Need-returns Inv-loop μ-loop
-returns c = rw (c .no-natural .ensures) (search (needs, steps.first-zero))
+returns c = let z : c .before .before .digit-at .result ≡ 0 = omega arith in rw (c .no-natural .ensures) (search (needs, steps.first-zero))
 
 no-natural-requires-2 : tie.Need-no-natural-requires-2 Inv-loop μ-loop
 no-natural-requires-2 c κs = tt
@@ -35,7 +35,9 @@ add-i : tie.Need-add-i Inv-loop μ-loop
 add-i c = search (needs, steps.next-fits)
 
 loop-holds : tie.Need-loop-holds Inv-loop μ-loop
-loop-holds c = search (needs, steps.first-on, steps.first-next)
+loop-holds c =
+    let z : c .before .before .digit-at .result ≡ 0 → ⊥ = λ e. omega (arith, e, c .before .if1 .left) in
+    search (needs, steps.first-on, steps.first-next, z)
 
 digit-at-requires-2 : tie.Need-digit-at-requires-2 Inv-loop μ-loop
 digit-at-requires-2 c κs = tt
@@ -44,10 +46,10 @@ returns-3 : tie.Need-returns-3 Inv-loop μ-loop
 returns-3 c = search (needs, steps.then-stop)
 
 mul-v : tie.Need-mul-v Inv-loop μ-loop
-mul-v c = search (needs, steps.mul-fits)
+mul-v c = let h : c .before .before .before .loop .k < following = omega arith in search (needs, steps.mul-fits)
 
 add-v : tie.Need-add-v Inv-loop μ-loop
-add-v c = search (needs, steps.add-fits)
+add-v c = let h : c .before .before .before .loop .k < following = omega arith in search (needs, steps.add-fits)
 
 add-i-2 : tie.Need-add-i-2 Inv-loop μ-loop
 add-i-2 c = search (needs, steps.next-fits)
@@ -59,10 +61,10 @@ loop-less : tie.Need-loop-less Inv-loop μ-loop
 loop-less c = omega arith
 
 loop-again : tie.Need-loop-again Inv-loop μ-loop
-loop-again c = search (needs, steps.then-on, steps.ten-times, steps.first-next)
+loop-again c = let h : c .before .before .before .loop .k < following = omega arith in search (needs, steps.then-on, steps.ten-times, steps.first-next)
 
 returns-4 : tie.Need-returns-4 Inv-loop μ-loop
-returns-4 c = search (needs, steps.then-end)
+returns-4 c = let h : following ≤ c .before .loop .k = omega arith in search (needs, steps.then-end)
 
 pub natural-at-spec : {M : Type 1} → statement M
 natural-at-spec =

@@ -1,4 +1,6 @@
 -- `scanning::number_at` meets its contract. Assumes nothing.
+use mathlib.Core.Path.{_≡_}
+use native.Mathlib.Omega.{arith}
 use borrow.Author.Needs.{needs}
 use Rattle.scanning.proofs.Numbers as steps
 use Rattle.scanning.proofs.number_at.Statement.{statement}
@@ -7,11 +9,15 @@ use Rattle.scanning.proofs.number_at.Tie as tie
 byte-at-requires : tie.Need-byte-at-requires
 byte-at-requires c κs = search needs
 
+-- a byte that is no 0
+no-zero : (c : tie.Else1) → c .before .byte-at .result ≡ 48 → ⊥
+no-zero c e = omega (arith, c .if1 .left, e)
+
 add-t7 : tie.Need-add-t7
-add-t7 c = search (needs, steps.zero-fits)
+add-t7 c = let z : c .before .byte-at .result ≡ 48 = omega arith in search (needs, steps.zero-fits)
 
 returns : tie.Need-returns
-returns c = search (needs, steps.zero-here, steps.zero-in)
+returns c = let z : c .before .byte-at .result ≡ 48 = omega arith in search (needs, steps.zero-here, steps.zero-in)
 
 add-natural-at : tie.Need-add-natural-at
 add-natural-at c = search (needs, steps.minus-next)
@@ -38,13 +44,13 @@ positive-requires : tie.Need-positive-requires
 positive-requires c κs = search (needs, steps.natural-small)
 
 returns-4 : tie.Need-returns-4
-returns-4 c = search (needs, steps.plus-here)
+returns-4 c = let z = no-zero (c .before .before .before .before) in search (needs, steps.plus-here, z)
 
 no-number-requires-2 : tie.Need-no-number-requires-2
 no-number-requires-2 c κs = tt
 
 returns-5 : tie.Need-returns-5
-returns-5 c = rw (c .no-number2 .ensures) (search (needs, steps.plus-none))
+returns-5 c = rw (c .no-number2 .ensures) (let z = no-zero (c .before .before .before .before) in search (needs, steps.plus-none, z))
 
 pub number-at-spec : {M : Type 1} → statement M
 number-at-spec =
