@@ -1,7 +1,12 @@
 -- Each number is read by itself. Assumes nothing.
-use mathlib.Core.Path.{_∙_}
+use mathlib.Core.Path.{_≡_, ap, _∙_}
+use mathlib.Core.List.{List}
+use Prim.Native.Nat.{ℕ, _+_}
+use native.Mathlib.Omega.{arith}
+use lib.IntN.{ℤ, pos}
+use lib.ListN.{getD}
 use Rattle.integers.specs.Signed.{read64}
-use Rattle.nodes.specs.Places.{side-eq}
+use Rattle.nodes.specs.Places.{centrePlace, axisPlace, boxPlace, side-eq}
 use borrow.Author.Needs.{needs}
 use Rattle.nodes.proofs.extent_at.Statement.{statement}
 use Rattle.nodes.proofs.extent_at.Tie as tie
@@ -24,12 +29,20 @@ add-wide-at-3 c = search needs
 wide-at-requires-3 : tie.Need-wide-at-requires-3
 wide-at-requires-3 c κs = search needs
 
+-- a number that was read at place k, which is place n in other words
+at-place : (l : List ℤ) (n : ℕ) (z : ℤ) (k : ℕ) → z ≡ getD l k (pos 0) → k ≡ n → z ≡ getD l n (pos 0)
+at-place l n z k e i = e ∙ ap (λ (k : ℕ). getD l k (pos 0)) i
+
 returns : tie.Need-returns
 returns c =
     let a = c .before .before .wide-at in
     let b = c .before .wide-at2 in
     let d = c .wide-at3 in
-    side-eq (read64 (a .result) (a .ok) ∙ a .ensures) (read64 (b .result) (b .ok) ∙ b .ensures) (read64 (d .result) (d .ok) ∙ d .ensures)
+    let s = c .before .before .before in
+    side-eq
+    (read64 (a .result) (a .ok) ∙ at-place (s .args .s .now) (s .args .i + centrePlace) _ _ (a .ensures) (omega arith))
+    (read64 (b .result) (b .ok) ∙ at-place (s .args .s .now) (s .args .i + axisPlace) _ _ (b .ensures) (omega arith))
+    (read64 (d .result) (d .ok) ∙ at-place (s .args .s .now) (s .args .i + boxPlace) _ _ (d .ensures) (omega arith))
 
 pub extent-at-spec : {M : Type 1} → statement M
 extent-at-spec =
