@@ -1,5 +1,6 @@
 -- Each return is one of the answers of `Steps`. Assumes nothing.
 use mathlib.Core.Path.{_≡_, refl, sym, _∙_}
+use native.Mathlib.Omega.{arith}
 use mir.Syntax.{w32}
 use mir.Val.{toZ, ofZ}
 use mir.Facts.{toZ-ofZ}
@@ -67,7 +68,7 @@ returns-3 c =
     let t = e .before .before in
     let g = t .before .before .before .before in
     let s = g .before .before in
-    steps.refused-space (s .args .job) (s .args .numbers) (s .args .room) (c .refused2 .result) (ok g) (t .check-trees .result) (told t) (e .if2 .left) (v .columns-of .result) (v .columns-of .ensures .0) (c .before .if3 .taken) (c .refused2 .ensures)
+    steps.refused-space (s .args .job) (s .args .numbers) (s .args .room) (c .refused2 .result) (ok g) (t .check-trees .result) (told t) (e .if2 .left) (v .columns-of .result) (v .columns-of .ensures .0) (omega (arith, c .before .if3 .taken)) (c .refused2 .ensures)
 
 returns-4 : tie.Need-returns-4
 returns-4 c =
@@ -76,7 +77,7 @@ returns-4 c =
     let t = e .before .before in
     let g = t .before .before .before .before in
     let s = g .before .before in
-    steps.all-passed (s .args .job) (s .args .numbers) (s .args .room) (t .check-trees .result) (ok g) (t .check-trees .result) (told t) (e .if2 .left) (v .columns-of .result) (v .columns-of .ensures .0) (c .if3 .left) refl
+    steps.all-passed (s .args .job) (s .args .numbers) (s .args .room) (t .check-trees .result) (ok g) (t .check-trees .result) (told t) (e .if2 .left) (v .columns-of .result) (v .columns-of .ensures .0) (omega (arith, c .if3 .left)) refl
 
 pub go-through-spec : {M : Type 1} → statement M
 go-through-spec =
