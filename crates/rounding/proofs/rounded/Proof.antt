@@ -110,7 +110,7 @@ returns c =
     let s = c .before in
     let e = below c in (
       back (minus (q s) (lit 1 tt) tt) ∙ sym (whole.below-is (s .args .x) (k s) (s .pre .2) e),
-      let t = told (s .args .x) (k s) (s .pre .2) (plus (r s) (d s) tt) (n s) (whole.below-whole (s .args .x) (k s) (s .pre .2) e) in cc,
+      let t = told (s .args .x) (k s) (s .pre .2) (plus (r s) (d s) tt) (n s) (whole.below-whole (s .args .x) (k s) (s .pre .2) e) in omega arith,
     )
 
 returns-2 : tie.Need-returns-2
@@ -118,7 +118,7 @@ returns-2 c =
     let s = c .before in
     let e = above c in (
       back (q s) ∙ sym (whole.above-is (s .args .x) (k s) (s .pre .2) e),
-      let t = told (s .args .x) (k s) (s .pre .2) (r s) (n s) (whole.above-whole (s .args .x) (k s) (s .pre .2) e) in cc,
+      let t = told (s .args .x) (k s) (s .pre .2) (r s) (n s) (whole.above-whole (s .args .x) (k s) (s .pre .2) e) in omega arith,
     )
 
 pub rounded-spec : {M : Type 1} → statement M
