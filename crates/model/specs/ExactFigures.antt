@@ -1,4 +1,5 @@
--- Figures on either side of each comparison and each number by which a map is judged: the exact verdict and the doubtful band. Assumes nothing.
+-- Figures on either side of each comparison and each number that a result shows, of what a map is judged by: the exact verdict and the
+-- doubtful band. Assumes nothing.
 use mathlib.Core.Path.{_≡_, refl, sym, subst}
 use mathlib.Core.Bool.{Bool, true, false, not}
 use mathlib.Core.Logic.{_⊎_, _↔_, inl, inr}

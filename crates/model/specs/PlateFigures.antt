@@ -1,5 +1,5 @@
--- Figures on either side of each number and each comparison of exploring, the plate and the distance of a point. Everything is computed.
--- Assumes nothing.
+-- Figures on either side of each number and each comparison that a result shows, of exploring, the plate and the distance of a point.
+-- Everything is computed. Assumes nothing.
 use mathlib.Core.Path.{_≡_, refl, subst}
 use mathlib.Core.Bool.{Bool, true, false, _&&_}
 use mathlib.Core.Logic.{_⊎_, inl, inr}

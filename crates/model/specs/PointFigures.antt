@@ -1,4 +1,5 @@
--- Figures on either side of each comparison of fractions, of two points' distance, and of the points of an edge and of a cell. Assumes nothing.
+-- Figures on either side of each comparison that a result shows, of fractions, of two points' distance, and of the points of an edge and of a
+-- cell. Assumes nothing.
 use mathlib.Core.Path.{_≡_, refl, ap, _∙_}
 use mathlib.Core.Bool.{Bool, true, false}
 use mathlib.Core.Logic.{inl, inr}

@@ -1,4 +1,5 @@
--- Figures on either side of each number and each comparison of strips, trees, the store and the root. Everything is computed. Assumes nothing.
+-- Figures on either side of each number and each comparison that a result shows, of strips, trees, the store and the root. Everything is
+-- computed. Assumes nothing.
 use mathlib.Core.Path.{_≡_, refl}
 use mathlib.Core.Bool.{Bool, true, false}
 use mathlib.Core.List.{List, [], _∷_}
