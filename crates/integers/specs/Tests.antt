@@ -4,7 +4,7 @@ use mathlib.Core.Bool.{Bool, true, false, not, _&&_, _||_}
 use mathlib.Core.Logic.{_⊎_, inl, inr}
 use Prim.Native.Nat.{ℕ, _≤_}
 use lib.Dec.{T, leb, leb→le}
-use lib.IntN.{ℤ}
+use lib.IntN.{ℤ, pos, negsuc}
 use lib.Signed.{leZ, ltZ, leZ-yes, ltZ-yes, ltZ-no}
 use Rattle.integers.specs.Order.{_≼_, _≺_}
 
@@ -45,6 +45,11 @@ or-false true b e = (e, cc)
 or-false false b e = (refl, e)
 
 -- ---- of numbers
+-- one is below zero or natural, so that a test of the sign, in whatever words, can be read at either
+pub sign : (z : ℤ) → ((n : ℕ) × (z ≡ negsuc n)) ⊎ ((n : ℕ) × (z ≡ pos n))
+sign (negsuc n) = inl (n, refl)
+sign (pos n) = inr (n, refl)
+
 pub le-of : (m n : ℕ) → leb m n ≡ true → m ≤ n
 le-of m n e = leb→le m n (subst T (sym e) tt)
 

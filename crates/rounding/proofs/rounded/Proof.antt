@@ -1,18 +1,19 @@
 -- Nothing wraps; the two ways through, by the remainder's sign, are those of `Whole`. Assumes nothing.
-use mathlib.Core.Path.{_≡_, refl, sym, ap, _∙_}
+use mathlib.Core.Path.{_≡_, sym, ap, _∙_}
 use mathlib.Core.Bool.{Bool, true, false, cond}
-use mathlib.Core.Logic.{_↔_, _⊎_, inl, inr, ⊎-elim}
+use mathlib.Core.Logic.{_↔_, ⊎-elim}
 use Prim.Native.Nat.{ℕ, _*_, _<_}
 use native.Mathlib.Omega.{arith}
 use borrow.Author.Tests.{ltb-true, ltb-false, leb-true, leb-false, le-ltb}
 use lib.Dec.{eqb}
-use lib.IntN.{ℤ, pos, negsuc, natAbs, _+ℤ_, _*ℤ_}
+use lib.IntN.{ℤ, pos, natAbs, _+ℤ_, _*ℤ_}
 use lib.Signed.{ltZ, quotZ, remZ}
 use mir.Syntax.{w64}
 use mir.Val.{toZ, ofZ}
 use Rattle.rounding.proofs.rounded.Statement.{statement}
 use Rattle.rounding.proofs.rounded.Tie as tie
 use Rattle.integers.specs.Rounding.{nearest}
+use Rattle.integers.specs.Tests.{sign}
 use Rattle.integers.specs.Signed.{Made, arg, arg-pos, lit, plus, minus, times, over, rest, above-zero, back, test-eq, test-ne}
 use Rattle.integers.specs.Whole as whole
 
@@ -54,11 +55,6 @@ module _ (c : tie.Start) where
 -- a test's answer as a number
 abbrev bit : Bool → ℕ
 bit t = cond t 1 0
-
--- a number is below zero or natural: the remainder's test, in whatever words, is read at either
-sign : (z : ℤ) → ((n : ℕ) × (z ≡ negsuc n)) ⊎ ((n : ℕ) × (z ≡ pos n))
-sign (negsuc n) = inl (n, refl)
-sign (pos n) = inr (n, refl)
 
 below : (c : tie.Then1) → ltZ (left (c .before)) (pos 0) ≡ true
 below c =
