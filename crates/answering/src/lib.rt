@@ -47,6 +47,16 @@ pub fn put_printed(sheet: &[u8], out: &mut [u8]) -> usize
     put_answer(job, out)
 }
 
+// The line of a refusal.
+pub fn put_refused(refusal: u8, out: &mut [u8]) -> usize
+    requires space { ⌜ 19 ≤ length (now out) ⌝ }
+    ensures wrote { λ r. ⌜ Put (now (out .entry)) (now (out .exit)) 0 r (writeForm refusedForm (pos refusal ∷ [])) ⌝ }
+    ensures bound { λ r. ⌜ r ≤ 19 ⌝ }
+{
+    let number = refusal as usize;
+    map_text::put_refusal(out, 0, number)
+}
+
 // The answer to the first k bytes.
 fn put_front(held: &[u8], k: usize, out: &mut [u8]) -> usize
     requires within { ⌜ Counts k (now held) ⌝ }
@@ -79,13 +89,4 @@ pub fn answer(fd: i32) -> Receipt
 {
     let mut held = [0u8; 8193];
     show_input(fd, &mut held)
-}
-
-// Hands a refusal's line to standard output.
-pub fn show_refusal(refusal: u8) -> Receipt
-    ensures bytes { λ r. ⌜ r .bytes ≡ length (writeForm refusedForm (pos refusal ∷ [])) ⌝ }
-{
-    let mut out = [0u8; 19];
-    let end = map_text::put_refusal(&mut out, 0, refusal as usize);
-    streams::hand_refusal(&out[..end], refusal)
 }

@@ -1,7 +1,6 @@
 // What the programs that run stored cases share: a case is an argument, the name of a file that holds a sheet.
 use libc::STDOUT_FILENO;
 use model::Read;
-use streams::Receipt;
 ghost use mathlib.Core.Path.{_≡_};
 ghost use mathlib.Core.List.{[], _∷_};
 ghost use Prim.Native.Nat.{min};
@@ -51,11 +50,29 @@ pub fn read_case(i: usize, sheet: &mut [u8]) -> Stored
     }
 }
 
-// Shows the refusal that reading a sheet gives, and nothing else.
-pub fn show_refused(got: Read, sheet: &[u8]) -> Receipt
+// Hands on the line of a refusal, and nothing else, and says how many bytes it has.
+fn hand_refusal(text: &[u8], refusal: u8) -> usize
+    requires line { ⌜ now text ≡ writeForm refusedForm (pos refusal ∷ []) ⌝ }
+    ensures bytes { λ r. ⌜ r ≡ length (now (text .entry)) ⌝ }
+{
+    io::write_all(STDOUT_FILENO, text);
+    text.len()
+}
+
+// Shows a refusal's line, and says how many bytes it has.
+pub fn show_refusal(refusal: u8) -> usize
+    ensures bytes { λ r. ⌜ r ≡ length (writeForm refusedForm (pos refusal ∷ [])) ⌝ }
+{
+    let mut out = [0u8; 19];
+    let end = answering::put_refused(refusal, &mut out);
+    hand_refusal(&out[..end], refusal)
+}
+
+// Shows the refusal that reading a sheet gives, and nothing else, and says how many bytes its line has.
+pub fn show_refused(got: Read, sheet: &[u8]) -> usize
     requires answer { ⌜ got ≡ read (now sheet) ⌝ }
-    ensures bytes { λ r. ⌜ r .bytes ≡ length (writeForm refusedForm (pos (got .refusal) ∷ [])) ⌝ }
+    ensures bytes { λ r. ⌜ r ≡ length (writeForm refusedForm (pos (got .refusal) ∷ [])) ⌝ }
 {
     let refusal = got.refusal;
-    answering::show_refusal(refusal)
+    show_refusal(refusal)
 }

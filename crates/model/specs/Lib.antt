@@ -43,5 +43,6 @@ pub mod JobFigures
 pub mod StripFigures
 pub mod PlateFigures
 pub mod EntryFigures
+pub mod CaseFigures
 pub mod PointFigures
 pub mod ExactFigures

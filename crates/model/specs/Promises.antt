@@ -11,6 +11,7 @@ use Rattle.basics.specs.Orders.{num⁺}
 use Rattle.model.specs.declared.Job.{Job}
 use Rattle.model.specs.declared.Read.{Read}
 use Rattle.model.specs.declared.Nearest.{Nearest}
+use Rattle.model.specs.Refusals.{Refusal}
 use Rattle.model.specs.Jobs.{outline, cellLog, judge}
 use Rattle.model.specs.Bytes.{bytes}
 use Rattle.model.specs.Sheets.{sheetOf}
@@ -43,6 +44,10 @@ MapLowest = (j : Job) (store : List ℤ) (cells : List ℕ) → Lowest (MapAppli
 
 abbrev pub PointLowest : Type 0
 PointLowest = (j : Job) (x y : ℤ) (store : List ℤ) (r : Nearest) → IsNearest j x y store r → Lowest (PointApplies j x y store) (r .refusal)
+
+-- and that is one number
+abbrev pub LowestOne : Type 1
+LowestOne = (Applies : Refusal → Type 0) (m n : ℕ) → Lowest Applies m → Lowest Applies n → m ≡ n
 
 -- ---- demand 2: the round trips
 -- a legal job's sheet reads back as that job

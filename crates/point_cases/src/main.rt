@@ -22,7 +22,7 @@ fn show_nearest(near: Nearest, job: Job, x: i32, y: i32, store: &[i32])
 {
     let refusal = near.refusal;
     if refusal != 0 {
-        answering::show_refusal(refusal);
+        case_files::show_refusal(refusal);
         return;
     }
     show_number(b"(point ", printable(near.lo));

@@ -17,7 +17,7 @@ fn show_written(job: Job) {
     let done = clearance::write(job, &mut out);
     let refusal = done.refusal;
     if refusal > 0 {
-        answering::show_refusal(refusal);
+        case_files::show_refusal(refusal);
         return;
     }
     let n = done.bytes;

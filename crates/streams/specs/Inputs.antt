@@ -10,6 +10,7 @@ use lib.IntN.{ℤ, pos, negsuc}
 use lib.Signed.{ltZ}
 use lib.ListN.{length, take}
 use lib.Seq.{length-take-le, take-all}
+use Rattle.model.specs.Bytes.{bytes}
 use Rattle.model.specs.Entries.{readAnswer, read}
 use Rattle.model.specs.Printing.{mapAnswered, printed}
 use borrow.Author.Tests.{le-ltb}
@@ -23,6 +24,10 @@ use Rattle.streams.specs.Reading.{Reply, given, goesOn, inTurn, Unbroken
 -- input, whatever stands in it past what was read.
 abbrev pub Answers : List ℕ → ℕ → List ℕ → Type 0
 Answers held k text = (input : List ℕ) → take k held ≡ take (length held) input → text ≡ printed input
+
+-- what standard error tells: one of two lines
+abbrev pub Message : List ℕ → Type 0
+Message line = (line ≡ bytes "clearmap: the answer could not be written\n") ⊎ (line ≡ bytes "clearmap: the input could not be read to its end\n")
 
 -- so many bytes were handed on: none, or those of some input's answer
 abbrev pub Handed : ℕ → Type 0

@@ -1,5 +1,6 @@
-// The system's read and write, for the program: no other crate of it names them. Of a call of the system no contract can say which bytes it
-// moves, so that what is asked stands before each: a text is written only where it is the answer, and to standard output only.
+// The system's read and write, for the program: no other crate of it names them. Three functions call them, `read_more`, `write_answer` and `tell`.
+// Of a call of the system no contract can say which bytes it moves, so that what is asked stands before each: a text is written only where it is
+// the answer, and to standard output only.
 mod inputs;
 mod outputs;
 
@@ -9,5 +10,4 @@ pub use inputs::has_failed;
 pub use inputs::read_input;
 pub use outputs::Receipt;
 pub use outputs::hand_on;
-pub use outputs::hand_refusal;
 pub use outputs::tell_unread;
