@@ -1,5 +1,5 @@
--- What the answers of the system's read say of an input. No contract can say what a read does; that what it answered and left in memory is used
--- as said here is one. Assumes nothing.
+-- What replies of the system's read say of an input. No contract can name the replies that the system gave, so that the promises here are of some
+-- replies: what is known of the input and the bytes held are as those have it. Assumes nothing.
 use mathlib.Core.Path.{_≡_}
 use mathlib.Core.Bool.{Bool, true, false, not, _&&_}
 use mathlib.Core.List.{List, [], _∷_, _++_}
