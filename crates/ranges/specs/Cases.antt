@@ -2,7 +2,7 @@
 use mathlib.Core.Path.{_≡_, refl, sym, ap, _∙_, subst}
 use mathlib.Core.Bool.{Bool, true, false, not, _&&_, _||_}
 use mathlib.Core.List.{List, [], _∷_}
-use mathlib.Core.Logic.{_⊎_, inl, inr}
+use mathlib.Core.Logic.{_⊎_, inl, inr, ⊎-elim}
 use Prim.Native.Nat.{ℕ, zero, suc, _+_, _*_, _/_, _≤_, _<_}
 use native.Mathlib.Numerals.{add-one}
 use native.Mathlib.Omega.{arith}
@@ -132,10 +132,6 @@ range-row j =
 pub spot-row : (x y : ℤ) → Just (coordinate x && coordinate y) (SpotCase x y)
 spot-row x y = either (coordinate x) (coordinate y) _ _ (coordinate-row x) (coordinate-row y)
 
-or-else : {A B C : Type 0} → (A → C) → (B → C) → A ⊎ B → C
-or-else f g (inl a) = f a
-or-else f g (inr b) = g b
-
 -- ---- 5: a long end is a piece that is reached and not short, found by going down from the whole edge and up again
 module _ (G : ℤ) (e : Edge) where
   abbrev End : ℕ → Type 0
@@ -163,7 +159,7 @@ module _ (G : ℤ) (e : Edge) where
       go : (t : Bool) → short G (strip e d k) ≡ t → isLong (elim t [ true ↦ leaf (strip e d k) | false ↦ node (strip e d k) (pieces G (strip e) left (d + 1) (2 * k)) (pieces G (strip e) left (d + 1) (2 * k + 1)) ]) ≡ true
           → (short G (strip e d k) ≡ false → Long left (d + 1) (2 * k) → End D) → (short G (strip e d k) ≡ false → Long left (d + 1) (2 * k + 1) → End D) → End D
       go true p h l r = absurd (subst T (sym h) tt)
-      go false p h l r = or-else (l p) (r p) (or-true (isLong (pieces G (strip e) left (d + 1) (2 * k))) (isLong (pieces G (strip e) left (d + 1) (2 * k + 1))) h)
+      go false p h l r = ⊎-elim (l p) (r p) (or-true (isLong (pieces G (strip e) left (d + 1) (2 * k))) (isLong (pieces G (strip e) left (d + 1) (2 * k + 1))) h)
 
   -- a piece that is not short is long where one of its halves is
   whole-long : (left d k i : ℕ) → i / 2 ≡ k → short G (strip e d k) ≡ false → Long left (d + 1) i → Long (suc left) d k
