@@ -1,5 +1,7 @@
--- Whole numbers: size, powers, quotients to the nearest. Assumes nothing.
-use Prim.Native.Nat.{ℕ, zero, suc, _*_}
+-- Whole numbers: size, powers, quotients to the nearest and whether they are whole. Assumes nothing.
+use mathlib.Core.Bool.{cond}
+use Prim.Native.Nat.{ℕ, zero, suc, _*_, _%_}
+use lib.Dec.{eqb}
 use lib.IntN.{ℤ, pos, natAbs, _+ℤ_, _*ℤ_}
 use lib.Signed.{shrZ}
 
@@ -17,3 +19,7 @@ x ^ℤ suc (suc n) = x ^ℤ suc n *ℤ x
 -- z over m, for m from 1 up, to the nearest whole number, and up where two are as near: what the kit's `shrZ`, which rounds down, gives of z/m + 1/2
 abbrev pub nearest : ℤ → ℕ → ℤ
 nearest z m = shrZ (pos 2 *ℤ z +ℤ pos m) (2 * m)
+
+-- 1 where z over m, for m from 1 up, leaves a remainder, and 0 where it is whole
+abbrev pub rest : ℤ → ℕ → ℕ
+rest z m = cond (eqb (natAbs z % m) 0) 0 1

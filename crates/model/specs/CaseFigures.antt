@@ -8,7 +8,7 @@ use lib.IntN.{pos, negsuc}
 use Rattle.model.specs.Refusals.{Refusal, number, form, edges, range, cell, long, store, space, stranger}
 use Rattle.model.specs.Numbers.{Small}
 use Rattle.model.specs.Forms.{marks}
-use Rattle.model.specs.Sheets.{jobForm, plateForm, edgeForm}
+use Rattle.model.specs.Sheets.{jobForm, plateForm, edgeForm, lineForm}
 use Rattle.model.specs.Cases.{Lowest}
 
 -- ---- seven digits, and eight, of either sign
@@ -22,7 +22,7 @@ eight-digits = ((λ h. absurd (omega arith)), (λ h. absurd (omega arith)))
 
 -- ---- the numbers of a form
 pub form-marks : (marks jobForm ≡ 0) × (marks plateForm ≡ 3) × (marks edgeForm ≡ 8)
-unfolding marks jobForm plateForm edgeForm
+unfolding marks jobForm plateForm edgeForm lineForm
 form-marks = (refl, refl, refl)
 
 -- ---- of cases 3 and 5 the lowest is 3, and no other number; of none it is 0

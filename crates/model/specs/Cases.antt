@@ -4,7 +4,7 @@ use mathlib.Core.Path.{_≡_}
 use mathlib.Core.Bool.{false}
 use mathlib.Core.List.{List, _++_}
 use mathlib.Core.Logic.{_⊎_}
-use Prim.Native.Nat.{ℕ, zero, suc, _*_, _/_, _≤_, _<_}
+use Prim.Native.Nat.{ℕ, zero, suc, _+_, _*_, _/_, _≤_, _<_}
 use lib.IntN.{ℤ, pos, negsuc, _-ℤ_}
 use lib.Signed.{_<ℤ_}
 use lib.ListN.{length, getD}
@@ -32,7 +32,8 @@ FormCase sheet = (gs : List Lines) → Formed sheet gs → ⊥
 abbrev pub EdgesCase : Job → Type 0
 EdgesCase j = (j .count < 1) ⊎ (64 < j .count)
 
--- 3: a number of the job lies outside its range. Of its 512 numbers, those of its edges are coordinates, and those past them are 0
+-- 3: a number of the job lies outside its range. Of its 512 numbers, those of its edges are coordinates, and those past them are 0; of its 64
+-- marks each is 0, or 1 for a line, which has zeros in the last four numbers of its place, and those past the count are 0
 abbrev pub Outside : ℤ → ℤ → ℤ → Type 0
 Outside lo hi z = (z <ℤ lo) ⊎ (hi <ℤ z)
 
@@ -42,10 +43,17 @@ Strays z = Outside (negsuc 999999) (pos 1000000) z
 abbrev pub PlaceCase : ℕ → List ℤ → ℕ → Type 0
 PlaceCase n vs i = ((i < n) × Strays (getD vs i (pos 0))) ⊎ ((n ≤ i) × (getD vs i (pos 0) ≡ pos 0 → ⊥))
 
+abbrev pub MarkCase : ℕ → List ℤ → List ℤ → ℕ → Type 0
+MarkCase n ms vs i =
+    ((n ≤ i) × (getD ms i (pos 0) ≡ pos 0 → ⊥))
+    ⊎ (((getD ms i (pos 0) ≡ pos 0 → ⊥) × (getD ms i (pos 0) ≡ pos 1 → ⊥))
+    ⊎ ((getD ms i (pos 0) ≡ pos 1) × ((k : ℕ) × ((4 ≤ k) × (k < 8) × (getD vs (8 * i + k) (pos 0) ≡ pos 0 → ⊥)))))
+
 abbrev pub RangeCase : Job → Type 0
 RangeCase j =
     Strays (j .x) ⊎ (Strays (j .y) ⊎ (Outside (pos 0) (pos 20) (j .n) ⊎ (Outside (pos 0) (pos 20) (j .m)
-    ⊎ (Outside (pos 1) (pos 1000000) (j .reach) ⊎ (Outside (pos 1) (pos 100000) (j .grain) ⊎ ((i : ℕ) × PlaceCase (8 * j .count) (j .places) i))))))
+    ⊎ (Outside (pos 1) (pos 1000000) (j .reach) ⊎ (Outside (pos 1) (pos 100000) (j .grain)
+    ⊎ (((i : ℕ) × PlaceCase (8 * j .count) (j .places) i) ⊎ ((i : ℕ) × MarkCase (j .count) (j .marks) (j .places) i)))))))
 
 -- 3, of an asked point
 abbrev pub SpotCase : ℤ → ℤ → Type 0
@@ -64,7 +72,7 @@ abbrev pub LongPiece : ℤ → Edge → ℕ → Type 0
 LongPiece T e k = Reached T e 10 k × (short T (strip e 10 k) ≡ false)
 
 abbrev pub LongCase : Job → Type 0
-LongCase j = (i : ℕ) × (i < j .count) × ((k : ℕ) × LongPiece (j .grain) (edgeAt (j .places) i) k)
+LongCase j = (i : ℕ) × (i < j .count) × ((k : ℕ) × LongPiece (j .grain) (edgeAt (j .marks) (j .places) i) k)
 
 -- 6: the trees have more numbers than the store
 abbrev pub StoreCase : Job → List ℤ → Type 0

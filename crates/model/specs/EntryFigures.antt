@@ -15,13 +15,13 @@ use Rattle.model.specs.declared.Written.{Written}
 use Rattle.model.specs.declared.Map.{Map}
 use Rattle.model.specs.declared.Nearest.{Nearest}
 use Rattle.model.specs.Refusals.{range, cell, Checks, first, check, rises, accepted}
-use Rattle.model.specs.Jobs.{between, coordinate, isZero, placed, counted, ranged, celled, judge, edgesFrom, outline}
+use Rattle.model.specs.Jobs.{between, coordinate, isZero, placed, isOne, spare, kind, marked, counted, ranged, celled, judge, edgesFrom, outline}
 use Rattle.model.specs.Bytes.{bytes, digit}
 use Rattle.model.specs.Numbers.{decimal, text, moreDigits, natural, number}
 use Rattle.model.specs.Forms.{writeForm, byte, readForm}
 use Rattle.model.specs.Layouts.{writeLine, writeLines, writeAll, readLine, readLines, readAll}
-use Rattle.model.specs.Sheets.{jobForm, plateForm, cellForm, reachForm, grainForm, edgeForm, endForm, tailLayout, layout, same, stated, edgeLines, sheetOf, joined, fit, ended, readSheet}
-use Rattle.model.specs.Strips.{sideAt, strip}
+use Rattle.model.specs.Sheets.{jobForm, plateForm, cellForm, reachForm, grainForm, edgeForm, lineForm, endForm, tailLayout, layout, same, stated, edgeLines, sheetOf, joined, fit, marksOf, placesOf, ended, readSheet}
+use Rattle.model.specs.Strips.{curved, straight, sideAt, strip}
 use Rattle.model.specs.Trees.{pieces, tree}
 use Rattle.model.specs.Store.{forest, begins}
 use Rattle.model.specs.Roots.{rootBy, root}
@@ -189,24 +189,24 @@ printFigures =
 
 -- ---- the statements
 pub checking-holds : AllHold Holds checkFigures
-unfolding readSheet ended layout tailLayout jobForm plateForm cellForm reachForm grainForm edgeForm endForm readAll readLines readLine readForm byte number natural moreDigits digit joined fit counted ranged celled between coordinate isZero placed
+unfolding readSheet ended layout tailLayout jobForm plateForm cellForm reachForm grainForm edgeForm lineForm endForm readAll readLines readLine readForm byte number natural moreDigits digit joined fit marksOf placesOf counted ranged celled between coordinate isZero placed isOne spare kind marked
 checking-holds = refl and refl and refl and refl and refl and refl and refl and refl and refl and tt
 
 pub writing-holds : AllHold Holds writeFigures
-unfolding write writeLeaves writeRefusal accepted counted ranged celled between coordinate isZero placed layout tailLayout jobForm plateForm cellForm reachForm grainForm edgeForm endForm sheetOf writeAll writeLines writeLine writeForm text decimal stated same edgeLines
+unfolding write writeLeaves writeRefusal accepted counted ranged celled between coordinate isZero placed isOne spare kind marked layout tailLayout jobForm plateForm cellForm reachForm grainForm edgeForm lineForm endForm sheetOf writeAll writeLines writeLine writeForm text decimal stated same edgeLines
 writing-holds =
     (refl, refl) and (refl, refl) and (refl, refl) and (refl, refl) and refl and refl and refl and refl and refl
     and tt
 
 pub drawing-holds : AllHold Holds mapFigures
-unfolding map mapStore mapCells mapRefusal accepted counted ranged celled between coordinate isZero placed forest outline edgesFrom sideAt strip absℤ tree pieces mapOf mapped rowMajor table drawn exploreAll explore isInside isAway₁ isAway₂ root rootBy
+unfolding map mapStore mapCells mapRefusal accepted counted ranged celled between coordinate isZero placed isOne spare kind marked forest outline edgesFrom curved straight sideAt strip absℤ tree pieces mapOf mapped rowMajor table drawn exploreAll explore isInside isAway₁ isAway₂ root rootBy
 drawing-holds =
     (refl, refl, refl) and (refl, refl, refl) and (refl, refl, refl) and (refl, refl, refl)
     and refl and refl and refl and refl and refl and refl and refl and refl
     and tt
 
 pub asking-holds : AllHold Holds pointFigures
-unfolding pointRefusal accepted counted ranged celled between coordinate isZero placed forest outline edgesFrom sideAt strip absℤ tree pieces begins same leaves leavesAll leavesAt least
+unfolding pointRefusal accepted counted ranged celled between coordinate isZero placed isOne spare kind marked forest outline edgesFrom curved straight sideAt strip absℤ tree pieces begins same leaves leavesAll leavesAt least
 asking-holds =
     refl and refl and refl and refl and refl and refl and refl and refl and refl and refl and refl and refl and refl
     and (record { refusal-is = refl; lo-is = refl; hi-is = refl; edge-is = inl refl })
@@ -218,5 +218,5 @@ asking-holds =
     and tt
 
 pub printing-holds : AllHold Holds printFigures
-unfolding printed mapAnswered answered mapText rowsText rowText mapForm refusedForm read readAnswer readSheet ended layout tailLayout jobForm plateForm cellForm reachForm grainForm edgeForm endForm readAll readLines readLine readForm byte number natural moreDigits digit joined fit judge accepted counted ranged celled between coordinate isZero placed writeForm text decimal mapRefusal forest outline edgesFrom sideAt strip absℤ tree pieces mapOf mapped rowMajor table drawn exploreAll explore isInside isAway₁ isAway₂ root rootBy
+unfolding printed mapAnswered answered mapText rowsText rowText mapForm refusedForm read readAnswer readSheet ended layout tailLayout jobForm plateForm cellForm reachForm grainForm edgeForm lineForm endForm readAll readLines readLine readForm byte number natural moreDigits digit joined fit marksOf placesOf judge accepted counted ranged celled between coordinate isZero placed isOne spare kind marked writeForm text decimal mapRefusal forest outline edgesFrom curved straight sideAt strip absℤ tree pieces mapOf mapped rowMajor table drawn exploreAll explore isInside isAway₁ isAway₂ root rootBy
 printing-holds = (refl, refl) and refl and refl and refl and refl and refl and refl and tt

@@ -7,20 +7,25 @@ use Prim.Native.Nat.{ℕ, _+_, _*_, _^_}
 use lib.IntN.{ℤ, pos, _+ℤ_, _-ℤ_, _*ℤ_}
 use Rattle.basics.specs.Orders.{num⁺, _⊠⁺_}
 use Rattle.basics.specs.Numbers.{_^ℤ_}
-use Rattle.model.specs.Jobs.{Cubic, Edge}
+use Rattle.model.specs.Jobs.{Component, cubic, line, Edge}
 use Rattle.model.specs.Fractions.{Frac, _≤ᶠ_, _<ᶠ_, whole, Point, Closer, Farther, AtMost, AtLeast}
 use Rattle.model.specs.Plates.{Verdict, clear, within, doubtful, mixed}
 
 abbrev pub Points : Type 1
 Points = Point → Type 0
 
--- ---- the outline's points: each edge at each fraction from 0 to 1, in the Bernstein form
--- at t = u/d, with w = d − u, over d³
-abbrev pub bernstein : Cubic → ℤ → ℤ → ℤ
-bernstein b u w = b .b0 *ℤ w ^ℤ 3 +ℤ pos 3 *ℤ b .b1 *ℤ u *ℤ w ^ℤ 2 +ℤ pos 3 *ℤ b .b2 *ℤ u ^ℤ 2 *ℤ w +ℤ b .b3 *ℤ u ^ℤ 3
+-- ---- the outline's points: each edge at each fraction from 0 to 1
+-- a cubic in the Bernstein form at t = u/d, with w = d − u, over d³
+abbrev pub bernstein : ℤ → ℤ → ℤ → ℤ → ℤ → ℤ → ℤ
+bernstein b0 b1 b2 b3 u w = b0 *ℤ w ^ℤ 3 +ℤ pos 3 *ℤ b1 *ℤ u *ℤ w ^ℤ 2 +ℤ pos 3 *ℤ b2 *ℤ u ^ℤ 2 *ℤ w +ℤ b3 *ℤ u ^ℤ 3
 
-abbrev pub coordinateAt : Cubic → Frac → Frac
-coordinateAt b t = record { top = bernstein b (t .top) (t .low -ℤ t .top); low = t .low ^ℤ 3; up = t .up ⊠⁺ t .up ⊠⁺ t .up }
+-- a line there: so much of its first end, and so much of its second, over d
+abbrev pub linear : ℤ → ℤ → ℤ → ℤ → ℤ
+linear a b u w = a *ℤ w +ℤ b *ℤ u
+
+abbrev pub coordinateAt : Component → Frac → Frac
+coordinateAt (cubic b0 b1 b2 b3) t = record { top = bernstein b0 b1 b2 b3 (t .top) (t .low -ℤ t .top); low = t .low ^ℤ 3; up = t .up ⊠⁺ t .up ⊠⁺ t .up }
+coordinateAt (line a b) t = record { top = linear a b (t .top) (t .low -ℤ t .top); low = t .low; up = t .up }
 
 abbrev pub pointAt : Edge → Frac → Point
 pointAt e t = record { x = coordinateAt (e .x) t; y = coordinateAt (e .y) t }

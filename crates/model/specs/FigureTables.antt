@@ -4,7 +4,8 @@ use Prim.Native.Nat.{ℕ, _-_}
 use lib.IntN.{ℤ, pos}
 use lib.ListN.{length, replicate}
 use Rattle.model.specs.declared.Job.{Job}
-use Rattle.model.specs.Jobs.{Cubic, Edge}
+pub use Rattle.model.specs.Jobs.{cubic, line}
+use Rattle.model.specs.Jobs.{Component, Edge}
 use Rattle.model.specs.Strips.{Side, Strip}
 
 -- a table of figures of the kinds F, of which H says when one holds
@@ -17,10 +18,7 @@ pub _and_ : {A B : Type 0} → A → B → A × B
 a and b = (a, b)
 
 -- ---- shorthands
-abbrev pub cubic : ℤ → ℤ → ℤ → ℤ → Cubic
-cubic b0 b1 b2 b3 = record { b0 = b0; b1 = b1; b2 = b2; b3 = b3 }
-
-abbrev pub edge : Cubic → Cubic → Edge
+abbrev pub edge : Component → Component → Edge
 edge x y = record { x = x; y = y }
 
 abbrev pub side : ℤ → ℤ → ℤ → Side
@@ -33,6 +31,13 @@ stripOf x y = record { x = x; y = y }
 abbrev pub padded : List ℤ → List ℤ
 padded vs = vs ++ replicate (512 - length vs) (pos 0)
 
--- corner x and y, N, M, reach, grain, count of edges and their numbers
+-- 64 marks: these, then zeros
+abbrev pub marking : List ℤ → List ℤ
+marking ms = ms ++ replicate (64 - length ms) (pos 0)
+
+-- corner x and y, N, M, reach, grain, count of edges, and their numbers; with their marks, and of cubics alone
+abbrev pub mixedJob : ℤ → ℤ → ℤ → ℤ → ℤ → ℤ → ℕ → List ℤ → List ℤ → Job
+mixedJob x y n m r t k vs ms = record { x = x; y = y; n = n; m = m; reach = r; grain = t; count = k; places = padded vs; marks = marking ms }
+
 abbrev pub job : ℤ → ℤ → ℤ → ℤ → ℤ → ℤ → ℕ → List ℤ → Job
-job x y n m r t k vs = record { x = x; y = y; n = n; m = m; reach = r; grain = t; count = k; places = padded vs }
+job x y n m r t k vs = mixedJob x y n m r t k vs []

@@ -6,8 +6,8 @@ use Prim.Native.Nat.{ℕ}
 use lib.IntN.{ℤ, pos, negsuc}
 use lib.ListN.{replicate}
 use Rattle.model.specs.declared.Job.{Job}
-use Rattle.model.specs.Jobs.{Edge, between, coordinate, isZero, placed, counted, ranged, celled, judge, edgesFrom, outline}
-use Rattle.model.specs.FigureTables.{AllHold, _and_, cubic, edge, job}
+use Rattle.model.specs.Jobs.{Edge, between, coordinate, isZero, placed, isOne, spare, kind, marked, counted, ranged, celled, judge, edgesFrom, outline}
+use Rattle.model.specs.FigureTables.{AllHold, _and_, cubic, line, edge, job, mixedJob}
 
 pub data Figure : Type 0 where
   -- a job and its refusal
@@ -36,6 +36,18 @@ numbered k i v = job (pos 0) (pos 0) (pos 0) (pos 0) (pos 1) (pos 1) k (replicat
 -- two edges, of the numbers 1 to 8 and of −1 to −8
 abbrev pub twice : Job
 twice = job (pos 0) (pos 0) (pos 0) (pos 0) (pos 1) (pos 1) 2 (pos 1 ∷ pos 2 ∷ pos 3 ∷ pos 4 ∷ pos 5 ∷ pos 6 ∷ pos 7 ∷ pos 8 ∷ negsuc 0 ∷ negsuc 1 ∷ negsuc 2 ∷ negsuc 3 ∷ negsuc 4 ∷ negsuc 5 ∷ negsuc 6 ∷ negsuc 7 ∷ [])
+
+-- v at place i of the 64 marks, with k edges
+abbrev pub stamped : ℕ → ℕ → ℤ → Job
+stamped k i v = mixedJob (pos 0) (pos 0) (pos 0) (pos 0) (pos 1) (pos 1) k [] (replicate i (pos 0) ++ (v ∷ []))
+
+-- two lines, with v at place i of the 512
+abbrev pub lined : ℕ → ℤ → Job
+lined i v = mixedJob (pos 0) (pos 0) (pos 0) (pos 0) (pos 1) (pos 1) 2 (replicate i (pos 0) ++ (v ∷ [])) (pos 1 ∷ pos 1 ∷ [])
+
+-- a cubic's numbers, 1 to 8, and a line's, −1 to −4
+abbrev pub twelve : List ℤ
+twelve = pos 1 ∷ pos 2 ∷ pos 3 ∷ pos 4 ∷ pos 5 ∷ pos 6 ∷ pos 7 ∷ pos 8 ∷ negsuc 0 ∷ negsuc 1 ∷ negsuc 2 ∷ negsuc 3 ∷ []
 
 abbrev pub jobFigures : List Figure
 jobFigures =
@@ -84,7 +96,32 @@ jobFigures =
     ∷ judged (numbered 0 0 (pos 0)) 2
     ∷ judged (numbered 64 0 (pos 0)) 0
     ∷ judged (numbered 65 0 (pos 0)) 2
+    -- an edge's mark, the first and the last of all
+    ∷ judged (stamped 1 0 (pos 1)) 0
+    ∷ judged (stamped 1 0 (pos 2)) 3
+    ∷ judged (stamped 1 0 (negsuc 0)) 3
+    ∷ judged (stamped 64 63 (pos 1)) 0
+    ∷ judged (stamped 64 63 (pos 2)) 3
+    -- the first mark past the count, and the last of all
+    ∷ judged (stamped 1 1 (pos 1)) 3
+    ∷ judged (stamped 1 1 (negsuc 0)) 3
+    ∷ judged (stamped 2 1 (pos 1)) 0
+    ∷ judged (stamped 63 63 (pos 1)) 3
+    -- a line's numbers: the fourth and the fifth, the eighth, and the same of a second line
+    ∷ judged (lined 3 (pos 1)) 0
+    ∷ judged (lined 4 (pos 1)) 3
+    ∷ judged (lined 5 (pos 1)) 3
+    ∷ judged (lined 6 (pos 1)) 3
+    ∷ judged (lined 7 (negsuc 0)) 3
+    ∷ judged (lined 8 (pos 1)) 0
+    ∷ judged (lined 11 (pos 1)) 0
+    ∷ judged (lined 12 (pos 1)) 3
+    ∷ judged (lined 15 (pos 1)) 3
+    ∷ judged (lined 16 (pos 1)) 3
+    ∷ judged (lined 3 (pos 1000001)) 3
     -- two at once: the lower number
+    ∷ judged (stamped 0 0 (pos 2)) 2
+    ∷ judged (stamped 65 0 (negsuc 0)) 2
     ∷ judged (numbered 0 0 (pos 1)) 2
     ∷ judged (job (pos 0) (pos 0) (pos 0) (pos 1) (pos 0) (pos 1) 1 []) 3
     ∷ judged (job (pos 0) (pos 0) (pos 0) (pos 1) (pos 1) (pos 1) 0 []) 2
@@ -92,14 +129,19 @@ jobFigures =
     ∷ outlined twice
     (edge (cubic (pos 1) (pos 3) (pos 5) (pos 7)) (cubic (pos 2) (pos 4) (pos 6) (pos 8))
     ∷ edge (cubic (negsuc 0) (negsuc 2) (negsuc 4) (negsuc 6)) (cubic (negsuc 1) (negsuc 3) (negsuc 5) (negsuc 7)) ∷ [])
+    -- a line takes the first four, and only the marked edge is one
+    ∷ outlined (mixedJob (pos 0) (pos 0) (pos 0) (pos 0) (pos 1) (pos 1) 2 twelve (pos 0 ∷ pos 1 ∷ []))
+    (edge (cubic (pos 1) (pos 3) (pos 5) (pos 7)) (cubic (pos 2) (pos 4) (pos 6) (pos 8)) ∷ edge (line (negsuc 0) (negsuc 2)) (line (negsuc 1) (negsuc 3)) ∷ [])
     -- a number that is not there is 0
-    ∷ outlined (record { x = pos 0; y = pos 0; n = pos 0; m = pos 0; reach = pos 1; grain = pos 1; count = 1; places = [] }) (edge (cubic (pos 0) (pos 0) (pos 0) (pos 0)) (cubic (pos 0) (pos 0) (pos 0) (pos 0)) ∷ [])
+    ∷ outlined (record { x = pos 0; y = pos 0; n = pos 0; m = pos 0; reach = pos 1; grain = pos 1; count = 1; places = []; marks = [] }) (edge (cubic (pos 0) (pos 0) (pos 0) (pos 0)) (cubic (pos 0) (pos 0) (pos 0) (pos 0)) ∷ [])
     ∷ []
 
 pub jobs-hold : AllHold Holds jobFigures
-unfolding judge counted ranged celled between coordinate isZero placed outline edgesFrom
+unfolding judge counted ranged celled between coordinate isZero placed isOne spare kind marked outline edgesFrom
 jobs-hold =
     refl and refl and refl and refl and refl and refl and refl and refl and refl and refl and refl and refl and refl and refl and refl and refl
     and refl and refl and refl and refl and refl and refl and refl and refl and refl and refl and refl and refl and refl and refl and refl and refl
     and refl and refl and refl and refl and refl and refl and refl and refl and refl and refl and refl and refl and refl
+    and refl and refl and refl and refl and refl and refl and refl and refl and refl and refl and refl and refl and refl and refl and refl and refl
+    and refl and refl and refl and refl and refl and refl and refl
     and tt

@@ -13,10 +13,10 @@ use Rattle.basics.specs.Orders.{_≺_}
 use Rattle.basics.specs.Lists.{table, rowMajor}
 use Rattle.basics.specs.Numbers.{absℤ}
 use Rattle.model.specs.declared.Job.{Job}
-use Rattle.model.specs.Jobs.{edgesFrom, outline}
+use Rattle.model.specs.Jobs.{edgesFrom, outline, isZero}
 use Rattle.model.specs.Bytes.{bytes}
 use Rattle.model.specs.Sheets.{same}
-use Rattle.model.specs.Strips.{Strip, sideAt, strip}
+use Rattle.model.specs.Strips.{Strip, curved, straight, sideAt, strip}
 use Rattle.model.specs.Trees.{Tree, leaf, long, node, pieces, tree}
 use Rattle.model.specs.Store.{forest}
 use Rattle.model.specs.Roots.{rootBy, root}
@@ -232,7 +232,7 @@ exploring-holds =
     and tt
 
 pub plates-hold : AllHold Holds plateFigures
-unfolding same mapOf mapped rowMajor table drawn exploreAll explore isInside isAway₁ isAway₂ absℤ root rootBy strip sideAt tree pieces forest outline edgesFrom leaves leavesAll leavesAt least
+unfolding same mapOf mapped rowMajor table drawn exploreAll explore isInside isAway₁ isAway₂ absℤ root rootBy strip curved straight sideAt tree pieces forest outline edgesFrom isZero leaves leavesAll leavesAt least
 plates-hold =
     refl and refl and refl and refl and refl and refl and refl and refl and refl and refl and refl and refl and refl and refl and refl and refl and refl and refl
     and (refl, refl) and inl refl and apart (pos 15496) (pos 6856) tt and (refl, refl) and apart (pos 42632) (pos 1480) tt and inl refl and (λ h. h) and inl refl and inl refl

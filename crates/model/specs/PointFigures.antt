@@ -10,10 +10,10 @@ use Rattle.integers.specs.RingSolver.{_^ℤ_, name₁, name₂, name₄, reify,
 use Rattle.integers.specs.Order.{_≼_, num⁺, _⊠_}
 use Rattle.integers.specs.Omega.{zarith}
 use Rattle.integers.specs.Inequalities.{≼-*}
-use Rattle.model.specs.Jobs.{Cubic, Edge}
+use Rattle.model.specs.Jobs.{Component, Edge}
 use Rattle.model.specs.Fractions.{Frac, _≤ᶠ_, _<ᶠ_, whole, _+ᶠ_, _-ᶠ_, sqᶠ, Point, dist², Closer, Farther, AtMost, AtLeast}
 use Rattle.model.specs.Exact.{bernstein, coordinateAt, Curve, Outline, CellPoint}
-use Rattle.model.specs.FigureTables.{AllHold, _and_, cubic, edge}
+use Rattle.model.specs.FigureTables.{AllHold, _and_, cubic, line, edge}
 
 -- ---- shorthands
 -- n over d + 1
@@ -54,10 +54,17 @@ Holds (off es P) = Outline es P → ⊥
 Holds (in-cell M X Y i j Q t) = Is t (CellPoint M X Y i j Q)
 
 -- ---- the table
-abbrev pub uneven : Cubic
+abbrev pub uneven : Component
 uneven = cubic (pos 17) (pos 1000) (negsuc 2999) (pos 5001)
 
-abbrev pub rising : Cubic
+-- lines
+abbrev pub falling : Component
+falling = line (pos 17) (negsuc 2999)
+
+abbrev pub level : Component
+level = line (pos 7) (pos 7)
+
+abbrev pub rising : Component
 rising = cubic (pos 0) (pos 0) (pos 0) (pos 8)
 
 abbrev pub pointFigures : List Figure
@@ -85,6 +92,10 @@ pointFigures =
     ∷ on (edge rising rising ∷ edge uneven rising ∷ []) (point (over (negsuc 13532) 124) (over (pos 64) 124))
     ∷ on (edge rising rising ∷ edge uneven rising ∷ []) (spot (pos 5001) (pos 8))
     ∷ on (edge rising uneven ∷ []) (spot (pos 0) (pos 17))
+    -- a line at 0, 2/5 and 1: from 17 to −3,000
+    ∷ on (edge falling rising ∷ []) (spot (pos 17) (pos 0))
+    ∷ on (edge falling level ∷ []) (point (over (negsuc 5948) 4) (over (pos 35) 4))
+    ∷ on (edge falling level ∷ []) (spot (negsuc 2999) (pos 7))
     -- where the same edge would be at 2 and at −1
     ∷ off (edge rising rising ∷ []) (spot (pos 64) (pos 64))
     ∷ off (edge rising rising ∷ []) (spot (negsuc 7) (negsuc 7))
@@ -112,7 +123,7 @@ apart-from-last z b u w = name₄ z b u w λ σ p q r s. simp (p, q, r, s, reify
 no-more-than : (k c : ℤ) → pos 0 *ℤ k +ℤ pos 8 *ℤ c ≡ pos 8 *ℤ c
 no-more-than k c = name₂ k c λ σ p q. simp (p, q, reify, σ) (close σ _ _ ok)
 
-eight : (u w : ℤ) → bernstein rising u w ≡ pos 8 *ℤ (u *ℤ u *ℤ u)
+eight : (u w : ℤ) → bernstein (pos 0) (pos 0) (pos 0) (pos 8) u w ≡ pos 8 *ℤ (u *ℤ u *ℤ u)
 eight u w = apart-from-last (pos 0) (pos 8) u w ∙ no-more-than (w ^ℤ 3 +ℤ pos 3 *ℤ u *ℤ w ^ℤ 2 +ℤ pos 3 *ℤ u ^ℤ 2 *ℤ w) (u *ℤ u *ℤ u)
 
 from-0 : (u d : ℤ) → pos 0 *ℤ d ≼ u *ℤ pos 1 → pos 0 ≼ u
@@ -154,6 +165,9 @@ points-hold =
     and inr (inl (record { t = over (pos 2) 4; from0 = record { le = tt }; to1 = record { le = tt }; here = refl }))
     and inr (inl (record { t = whole (pos 1); from0 = record { le = tt }; to1 = record { le = tt }; here = refl }))
     and inl (record { t = whole (pos 0); from0 = record { le = tt }; to1 = record { le = tt }; here = refl })
+    and inl (record { t = whole (pos 0); from0 = record { le = tt }; to1 = record { le = tt }; here = refl })
+    and inl (record { t = over (pos 2) 4; from0 = record { le = tt }; to1 = record { le = tt }; here = refl })
+    and inl (record { t = whole (pos 1); from0 = record { le = tt }; to1 = record { le = tt }; here = refl })
     and (λ h. elim h [ inl c ↦ past c | inr n ↦ n ])
     and (λ h. elim h [ inl c ↦ before c | inr n ↦ n ])
     and (λ h. h)

@@ -25,9 +25,9 @@ use Rattle.model.specs.Entries.{read, writeRefusal, write, writeLeaves, 
 use Rattle.model.specs.Printing.{printed}
 use Rattle.model.specs.Cases.{ReadApplies, WriteApplies, MapApplies, PointApplies, Lowest}
 
--- a job value of the code: its outline has 64 places of eight numbers
+-- a job value of the code: its outline has 64 places of eight numbers, and 64 marks
 abbrev pub Whole : Job → Type 0
-Whole j = length (j .places) ≡ 512
+Whole j = (length (j .places) ≡ 512) × (length (j .marks) ≡ 64)
 
 abbrev pub readAs : Job → Read
 readAs j = record { refusal = 0; job = j }

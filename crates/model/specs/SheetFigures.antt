@@ -8,15 +8,15 @@ use lib.IntN.{ℤ, pos, negsuc}
 use lib.ListN.{getD, replicate}
 use Rattle.model.specs.declared.Job.{Job}
 use Rattle.model.specs.declared.Read.{Read}
-use Rattle.model.specs.Jobs.{between, coordinate, isZero, placed, counted, ranged, celled, judge}
+use Rattle.model.specs.Jobs.{between, coordinate, isZero, placed, isOne, spare, kind, marked, counted, ranged, celled, judge}
 use Rattle.model.specs.Refusals.{accepted}
 use Rattle.model.specs.Bytes.{got, none, bytes, digit}
 use Rattle.model.specs.Numbers.{decimal, text, moreDigits, natural, number}
 use Rattle.model.specs.Forms.{writeForm, byte, readForm}
 use Rattle.model.specs.Layouts.{Section, section, Line, Lines, plain, writeLine, writeLines, writeAll, readLine, readLines, readAll}
-use Rattle.model.specs.Sheets.{jobForm, plateForm, cellForm, reachForm, grainForm, edgeForm, endForm, tailLayout, layout, jobAt, plateAt, cellAt, reachAt, grainAt, edgesAt, endAt, same, stated, edgeLines, linesOf, sheetOf, joined, fit, jobOf, ended, readSheet}
+use Rattle.model.specs.Sheets.{jobForm, plateForm, cellForm, reachForm, grainForm, edgeForm, lineForm, endForm, tailLayout, layout, jobAt, plateAt, cellAt, reachAt, grainAt, edgesAt, endAt, same, stated, edgeLines, linesOf, sheetOf, joined, fit, marksOf, placesOf, jobOf, ended, readSheet}
 use Rattle.model.specs.Entries.{readAnswer, read}
-use Rattle.model.specs.FigureTables.{AllHold, _and_, job}
+use Rattle.model.specs.FigureTables.{AllHold, _and_, job, mixedJob}
 
 pub data Figure : Type 0 where
   -- a number and its text
@@ -30,7 +30,7 @@ pub data Figure : Type 0 where
   reads-lines : List Section → String → List Lines → String → Figure
   no-lines : List Section → String → Figure
   -- the form of a place of the sheet's layout, with the least and the most lines of it
-  stands : ℕ → List ℕ → ℕ → ℕ → Figure
+  stands : ℕ → List (List ℕ) → ℕ → ℕ → Figure
   -- the job of some lines
   lines-job : List Lines → Job → Figure
   -- a sheet's bytes and what reading them answers
@@ -51,7 +51,7 @@ Holds (no-number s) = number (bytes s) ≡ none
 Holds (writes-lines ss gs s) = writeAll ss gs ≡ bytes s
 Holds (reads-lines ss s gs t) = readAll ss [] (bytes s) ≡ got gs (bytes t)
 Holds (no-lines ss s) = readAll ss [] (bytes s) ≡ none
-Holds (stands k F lo hi) = getD layout k (section [] 0 0) ≡ section (F ∷ []) lo hi
+Holds (stands k Fs lo hi) = getD layout k (section [] 0 0) ≡ section Fs lo hi
 Holds (lines-job gs j) = jobOf gs ≡ j
 Holds (reads s a) = read s ≡ a
 Holds (reads-refused s k) = read s .refusal ≡ k
@@ -144,22 +144,35 @@ twoEdges = pos 1 ∷ pos 2 ∷ pos 3 ∷ pos 4 ∷ pos 5 ∷ pos 6 ∷ pos 7 ∷
 abbrev pub twoSheet : ℤ → Job
 twoSheet t = job (pos 11) (negsuc 11) (pos 6) (pos 3) (pos 14) t 2 twoEdges
 
+-- a line, a cubic and a line
+abbrev pub mixedSheet : Job
+mixedSheet = mixedJob (pos 11) (negsuc 11) (pos 6) (pos 3) (pos 14) (pos 10) 3 (pos 1 ∷ pos 2 ∷ pos 3 ∷ pos 4 ∷ pos 0 ∷ pos 0 ∷ pos 0 ∷ pos 0 ∷ pos 1 ∷ pos 2 ∷ pos 3 ∷ pos 4 ∷ pos 5 ∷ pos 6 ∷ pos 7 ∷ pos 8 ∷ negsuc 0 ∷ negsuc 1 ∷ negsuc 2 ∷ negsuc 3 ∷ []) (pos 1 ∷ pos 0 ∷ pos 1 ∷ [])
+
+-- an outline of these lines under a short head
+abbrev pub outlined : String → List ℕ
+outlined s = bytes "(job\n(plate 0 0 0)\n(cell 0)\n(reach 1)\n" ++ (bytes s ++ bytes ")\n")
+
+abbrev pub dotLine : List ℕ
+dotLine = bytes "(line (0 0) (0 0))\n"
+
 abbrev pub zeros : Read
 zeros = record { refusal = 1; job = job (pos 0) (pos 0) (pos 0) (pos 0) (pos 0) (pos 0) 0 [] }
 
 abbrev pub sheetFigures : List Figure
 sheetFigures =
-    stands jobAt jobForm 1 1
-    ∷ stands plateAt plateForm 1 1
-    ∷ stands cellAt cellForm 1 1
-    ∷ stands reachAt reachForm 1 1
-    ∷ stands grainAt grainForm 0 1
-    ∷ stands edgesAt edgeForm 0 8192
-    ∷ stands endAt endForm 1 1
+    stands jobAt (jobForm ∷ []) 1 1
+    ∷ stands plateAt (plateForm ∷ []) 1 1
+    ∷ stands cellAt (cellForm ∷ []) 1 1
+    ∷ stands reachAt (reachForm ∷ []) 1 1
+    ∷ stands grainAt (grainForm ∷ []) 0 1
+    ∷ stands edgesAt (edgeForm ∷ lineForm ∷ []) 0 8192
+    ∷ stands endAt (endForm ∷ []) 1 1
     -- the grain on either side of the one that is not written
     ∷ sheet-of (twoSheet (pos 9)) "(job\n(plate 11 -12 6)\n(cell 3)\n(reach 14)\n(grain 9)\n(edge (1 2) (3 4) (5 6) (7 8))\n(edge (-1 -2) (-3 -4) (-5 -6) (-7 -8))\n)\n"
     ∷ sheet-of (twoSheet (pos 10)) "(job\n(plate 11 -12 6)\n(cell 3)\n(reach 14)\n(edge (1 2) (3 4) (5 6) (7 8))\n(edge (-1 -2) (-3 -4) (-5 -6) (-7 -8))\n)\n"
     ∷ sheet-of (twoSheet (pos 11)) "(job\n(plate 11 -12 6)\n(cell 3)\n(reach 14)\n(grain 11)\n(edge (1 2) (3 4) (5 6) (7 8))\n(edge (-1 -2) (-3 -4) (-5 -6) (-7 -8))\n)\n"
+    -- lines among the edge lines
+    ∷ sheet-of mixedSheet "(job\n(plate 11 -12 6)\n(cell 3)\n(reach 14)\n(line (1 2) (3 4))\n(edge (1 2) (3 4) (5 6) (7 8))\n(line (-1 -2) (-3 -4))\n)\n"
     -- each line has its own numbers and no more
     ∷ job-lines (twoSheet (pos 10))
     ((plain [] ∷ []) ∷ (plain (pos 11 ∷ negsuc 11 ∷ pos 6 ∷ []) ∷ []) ∷ (plain (pos 3 ∷ []) ∷ []) ∷ (plain (pos 14 ∷ []) ∷ []) ∷ []
@@ -172,6 +185,8 @@ sheetFigures =
     -- the job of no lines at all, and of more edge lines than there are places
     ∷ lines-job [] (job (pos 0) (pos 0) (pos 0) (pos 0) (pos 0) (pos 10) 0 [])
     ∷ lines-job ([] ∷ [] ∷ [] ∷ [] ∷ [] ∷ replicate 65 (plain (replicate 8 (pos 1))) ∷ []) (job (pos 0) (pos 0) (pos 0) (pos 0) (pos 0) (pos 10) 65 (replicate 512 (pos 1)))
+    -- of more line lines than there are places
+    ∷ lines-job ([] ∷ [] ∷ [] ∷ [] ∷ [] ∷ replicate 65 (record { which = 1; numbers = replicate 4 (pos 0) }) ∷ []) (mixedJob (pos 0) (pos 0) (pos 0) (pos 0) (pos 0) (pos 10) 65 [] (replicate 64 (pos 1)))
     -- what is refused is a job of zeros
     ∷ reads (bytes "") zeros
     ∷ reads (bytes "(job\n(plate 0 0 0)\n(cell 0)\n(reach 1)\n)\n") (record { refusal = 2; job = zeros .job })
@@ -189,6 +204,22 @@ sheetFigures =
     ∷ reads-refused (bytes "(job\n(plate 0 0 0)\n(cell 0)\n(reach 1)\n(edge (0 0) (0 0) (0 0) (0 0))\n)\n)\n") 1
     -- a byte after the last line
     ∷ reads-refused (bytes "(job\n(plate 0 0 0)\n(cell 0)\n(reach 1)\n(edge (0 0) (0 0) (0 0) (0 0))\n)\n ") 1
+    -- a line of one point and of three, with two spaces, with another word, with another zero, and one that is right
+    ∷ reads-refused (outlined "(line (0 0))\n") 1
+    ∷ reads-refused (outlined "(line (0 0) (0 0) (0 0))\n") 1
+    ∷ reads-refused (outlined "(line  (0 0) (0 0))\n") 1
+    ∷ reads-refused (outlined "(Line (0 0) (0 0))\n") 1
+    ∷ reads-refused (outlined "(line (-0 0) (0 0))\n") 1
+    ∷ reads-refused (outlined "(edge (0 0) (0 0))\n") 1
+    ∷ reads-refused (outlined "(line (0 0) (0 0) (0 0) (0 0))\n") 1
+    ∷ reads-refused (outlined "(line (0 0) (0 0))\n") 0
+    ∷ reads-refused (outlined "(line (0 0) (0 1000000))\n") 0
+    ∷ reads-refused (outlined "(line (0 0) (0 1000001))\n") 3
+    -- 33 edges and 31 lines, and 32; 428 lines in 8,192 bytes, and 429
+    ∷ reads-refused (bytes "(job\n(plate 0 0 0)\n(cell 0)\n(reach 1)\n" ++ (times 33 pointLine ++ (times 31 dotLine ++ bytes ")\n"))) 0
+    ∷ reads-refused (bytes "(job\n(plate 0 0 0)\n(cell 0)\n(reach 1)\n" ++ (times 33 pointLine ++ (times 32 dotLine ++ bytes ")\n"))) 2
+    ∷ reads-refused (bytes "(job\n(plate -8 -8 4)\n(cell 1)\n(reach 4)\n(grain 1)\n" ++ (times 428 dotLine ++ bytes ")\n")) 2
+    ∷ reads-refused (bytes "(job\n(plate -8 -8 4)\n(cell 1)\n(reach 4)\n(grain 1)\n" ++ (times 429 dotLine ++ bytes ")\n")) 1
     -- 64 edges and 65, 8,192 bytes and 8,193
     ∷ reads-refused (bytes "(job\n(plate 0 0 0)\n(cell 0)\n(reach 1)\n" ++ (times 64 pointLine ++ bytes ")\n")) 0
     ∷ reads-refused (bytes "(job\n(plate 0 0 0)\n(cell 0)\n(reach 1)\n" ++ (times 65 pointLine ++ bytes ")\n")) 2
@@ -211,9 +242,10 @@ layouts-hold =
     and tt
 
 pub sheets-hold : AllHold Holds sheetFigures
-unfolding text decimal number natural moreDigits digit writeAll writeLines writeLine writeForm readAll readLines readLine readForm byte times layout tailLayout jobForm plateForm cellForm reachForm grainForm edgeForm endForm same stated edgeLines sheetOf joined fit ended readSheet read readAnswer accepted judge counted ranged celled between coordinate isZero placed
+unfolding text decimal number natural moreDigits digit writeAll writeLines writeLine writeForm readAll readLines readLine readForm byte times layout tailLayout jobForm plateForm cellForm reachForm grainForm edgeForm lineForm endForm same stated edgeLines sheetOf joined fit marksOf placesOf ended readSheet read readAnswer accepted judge counted ranged celled between coordinate isZero placed isOne spare kind marked
 sheets-hold =
     refl and refl and refl and refl and refl and refl and refl
-    and (refl, refl) and (refl, refl) and (refl, refl) and refl and refl and refl and refl and refl and refl and refl and refl and refl and refl and refl and refl and refl and refl
-    and refl and refl and refl and refl and refl and refl and refl and refl and refl
+    and (refl, refl) and (refl, refl) and (refl, refl) and (refl, refl) and refl and refl and refl and refl and refl and refl and refl and refl and refl and refl and refl and refl and refl and refl and refl and refl
+    and refl and refl and refl and refl and refl and refl and refl and refl and refl and refl and refl and refl and refl and refl
+    and refl and refl and refl and refl and refl and refl and refl and refl
     and tt

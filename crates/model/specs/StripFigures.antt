@@ -7,8 +7,8 @@ use Prim.Native.Nat.{ℕ}
 use lib.IntN.{ℤ, pos, negsuc}
 use Rattle.basics.specs.Numbers.{_^ℤ_, absℤ}
 use Rattle.model.specs.declared.Job.{Job}
-use Rattle.model.specs.Jobs.{Edge, edgesFrom, outline}
-use Rattle.model.specs.Strips.{Side, Strip, sideAt, strip, short}
+use Rattle.model.specs.Jobs.{Edge, edgesFrom, outline, isZero}
+use Rattle.model.specs.Strips.{Side, Strip, curved, straight, sideAt, strip, short}
 use Rattle.model.specs.Trees.{Tree, leaf, long, node, pieces, tree, anyLong}
 use Rattle.model.specs.Sheets.{same}
 use Rattle.model.specs.Store.{flatten, forest, nodesOf, storeOf, begins}
@@ -140,7 +140,7 @@ stripFigures =
     ∷ []
 
 pub strips-hold : AllHold Holds stripFigures
-unfolding strip sideAt absℤ tree pieces forest outline edgesFrom begins same root rootBy
+unfolding strip curved straight sideAt absℤ tree pieces forest outline edgesFrom isZero begins same root rootBy
 strips-hold =
     refl and refl and refl and refl and refl and refl and refl and refl and refl and refl and refl and refl and refl and refl and refl and refl and refl
     and refl and refl and refl and refl

@@ -3,22 +3,22 @@ use mathlib.Core.Bool.{Bool, _&&_}
 use Prim.Native.Nat.{ℕ, _+_, _*_, _^_}
 use lib.IntN.{ℤ, pos, _+ℤ_, _-ℤ_, _*ℤ_}
 use lib.Signed.{leZ}
-use Rattle.basics.specs.Numbers.{_^ℤ_, absℤ, nearest}
-use Rattle.model.specs.Jobs.{Cubic, Edge}
+use Rattle.basics.specs.Numbers.{_^ℤ_, absℤ, nearest, rest}
+use Rattle.model.specs.Jobs.{Component, cubic, line, Edge}
 
--- ---- the power form: a coordinate is c0 + c1·t + c2·t² + c3·t³
+-- ---- the power form of a cubic: a coordinate is c0 + c1·t + c2·t² + c3·t³
 pub record PowerForm : Type 0 where
   pub c0 : ℤ
   pub c1 : ℤ
   pub c2 : ℤ
   pub c3 : ℤ
 
-abbrev pub powerOf : Cubic → PowerForm
-powerOf b = record {
-  c0 = b .b0;
-  c1 = pos 3 *ℤ (b .b1 -ℤ b .b0);
-  c2 = pos 3 *ℤ (b .b0 -ℤ pos 2 *ℤ b .b1 +ℤ b .b2);
-  c3 = b .b3 -ℤ pos 3 *ℤ b .b2 +ℤ pos 3 *ℤ b .b1 -ℤ b .b0;
+abbrev pub powerOf : ℤ → ℤ → ℤ → ℤ → PowerForm
+powerOf b0 b1 b2 b3 = record {
+  c0 = b0;
+  c1 = pos 3 *ℤ (b1 -ℤ b0);
+  c2 = pos 3 *ℤ (b0 -ℤ pos 2 *ℤ b1 +ℤ b2);
+  c3 = b3 -ℤ pos 3 *ℤ b2 +ℤ pos 3 *ℤ b1 -ℤ b0;
 }
 
 -- ---- pieces: at depth d an edge has 2^d of them, and piece k is where t = (m + e)/N with N and m as here and the noise symbol e from −1 to 1
@@ -55,6 +55,7 @@ pub record Strip : Type 0 where
   pub x : Side
   pub y : Side
 
+-- ---- of a cubic
 -- With e² = 1/2 + (a new symbol)/2 and e³ = (3/4)·e + (another)/4, sixteen times the coordinate has four coefficients over N³, which is k
 -- here. Each is rounded, by at most 1/2; the box is padded by 2, which covers all four roundings.
 abbrev pub centreOf : PowerForm → ℤ → ℤ → ℕ → ℤ
@@ -72,16 +73,36 @@ thirdOf c k = quotient (pos 4 *ℤ a3 c) k
 abbrev pub boxOf : PowerForm → ℤ → ℤ → ℕ → ℤ
 boxOf c N m k = absℤ (secondOf c N m k) +ℤ absℤ (thirdOf c k) +ℤ pos 2
 
-unfoldable pub sideAt : PowerForm → ℕ → ℕ → Side
-sideAt c n m = record {
+unfoldable pub curved : PowerForm → ℕ → ℕ → Side
+curved c n m = record {
   centre = centreOf c (pos n) (pos m) (n * n * n);
   axis = axisOf c (pos n) (pos m) (n * n * n);
   box = boxOf c (pos n) (pos m) (n * n * n);
 }
 
+-- ---- of a line, from a by g to its second end: N times the coordinate is a·N + g·m + g·e. Sixteen times it has two coefficients over N.
+-- Where one of them is whole it is exact; where it is not, its rounding adds 1 to the box.
+abbrev pub centreTop : ℤ → ℤ → ℤ → ℤ → ℤ
+centreTop a g N m = pos 16 *ℤ (a *ℤ N +ℤ g *ℤ m)
+
+abbrev pub axisTop : ℤ → ℤ
+axisTop g = pos 16 *ℤ g
+
+unfoldable pub straight : ℤ → ℤ → ℕ → ℕ → Side
+straight a g n m = record {
+  centre = quotient (centreTop a g (pos n) (pos m)) n;
+  axis = quotient (axisTop g) n;
+  box = pos (rest (centreTop a g (pos n) (pos m)) n + rest (axisTop g) n);
+}
+
+-- ---- of an edge
+unfoldable pub sideAt : Component → ℕ → ℕ → Side
+sideAt (cubic b0 b1 b2 b3) n m = curved (powerOf b0 b1 b2 b3) n m
+sideAt (line a b) n m = straight a (b -ℤ a) n m
+
 -- the strip of piece k of depth d. Both coordinates have the same e: that keeps the slant
 unfoldable pub strip : Edge → ℕ → ℕ → Strip
-strip e d k = record { x = sideAt (powerOf (e .x)) (denominator d) (middle k); y = sideAt (powerOf (e .y)) (denominator d) (middle k) }
+strip e d k = record { x = sideAt (e .x) (denominator d) (middle k); y = sideAt (e .y) (denominator d) (middle k) }
 
 -- a strip is short where its upright box reaches at most a grain T from its centre, either way
 abbrev pub fits : ℤ → Side → Bool

@@ -4,7 +4,8 @@ ghost use mathlib.Core.List.{[], _∷_};
 ghost use Rattle.model.specs.Refusals.{number, form, edges, range, cell, long, store, space, stranger};
 ghost use Rattle.model.specs.Plates.{letter, clear, within, doubtful};
 
-// A job: the plate's lower left corner, N, M, the reach, the grain, and the outline as a count of edges and 64 places of eight numbers.
+// A job: the plate's lower left corner, N, M, the reach, the grain, and the outline as a count of edges, 64 places of eight numbers and 64
+// marks, which say each edge's kind.
 pub struct Job {
     pub x: i32,
     pub y: i32,
@@ -14,6 +15,7 @@ pub struct Job {
     pub grain: i32,
     pub count: usize,
     pub places: [i32; 512],
+    pub marks: [i32; 64],
 }
 
 // What reading a sheet answers: the refusal's number or 0, and the job, all zeros where it is refused.
