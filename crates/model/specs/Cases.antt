@@ -32,8 +32,8 @@ FormCase sheet = (gs : List Lines) → Formed sheet gs → ⊥
 abbrev pub EdgesCase : Job → Type 0
 EdgesCase j = (j .count < 1) ⊎ (64 < j .count)
 
--- 3: a number of the job lies outside its range. Of its 512 numbers, those of its edges are coordinates, and those past them are 0; of its 64
--- marks each is 0, or 1 for a line, which has zeros in the last four numbers of its place, and those past the count are 0
+-- 3: a number of the job lies outside its range. Of its 512 numbers, those of its edges are coordinates, and those past them are 0. Of its 64
+-- marks one is not 0, and it stands past the count, or it is not 1, or the last four numbers of its place are not all 0
 abbrev pub Outside : ℤ → ℤ → ℤ → Type 0
 Outside lo hi z = (z <ℤ lo) ⊎ (hi <ℤ z)
 
@@ -45,9 +45,8 @@ PlaceCase n vs i = ((i < n) × Strays (getD vs i (pos 0))) ⊎ ((n ≤ i) × (ge
 
 abbrev pub MarkCase : ℕ → List ℤ → List ℤ → ℕ → Type 0
 MarkCase n ms vs i =
-    ((n ≤ i) × (getD ms i (pos 0) ≡ pos 0 → ⊥))
-    ⊎ (((getD ms i (pos 0) ≡ pos 0 → ⊥) × (getD ms i (pos 0) ≡ pos 1 → ⊥))
-    ⊎ ((getD ms i (pos 0) ≡ pos 1) × ((k : ℕ) × ((4 ≤ k) × (k < 8) × (getD vs (8 * i + k) (pos 0) ≡ pos 0 → ⊥)))))
+    (getD ms i (pos 0) ≡ pos 0 → ⊥)
+    × ((n ≤ i) ⊎ ((getD ms i (pos 0) ≡ pos 1 → ⊥) ⊎ ((k : ℕ) × (4 ≤ k) × (k < 8) × (getD vs (8 * i + k) (pos 0) ≡ pos 0 → ⊥))))
 
 abbrev pub RangeCase : Job → Type 0
 RangeCase j =

@@ -10,14 +10,15 @@ use lib.Dec.{T, leb, lt→ltb, eqb}
 use lib.IntN.{ℤ, pos, negsuc, _-ℤ_}
 use lib.ListN.{length, getD, drop}
 use lib.Signed.{_<ℤ_, leZ, ltZ, ltZ-yes, clashℤ}
+use lib.Seq.{getD-drop}
 use borrow.Author.Tests.{lt-leb, leb-false, eqb-true, eqb-false}
 use Rattle.integers.specs.Tests.{le-true, or-true, or-yes}
 use Rattle.model.specs.declared.Job.{Job}
-use Rattle.model.specs.Jobs.{Edge, between, coordinate, isZero, placed, counted, ranged, celled, edgeAt, edgesFrom, outline}
+use Rattle.model.specs.Jobs.{Edge, between, coordinate, isZero, isOne, spare, kind, placed, marked, counted, ranged, celled, edgeAt, edgesFrom, outline}
 use Rattle.model.specs.Strips.{strip, short}
 use Rattle.model.specs.Trees.{Tree, leaf, long, node, pieces, tree, trees, isLong, anyLong}
 use Rattle.model.specs.Store.{forest, storeOf, begins}
-use Rattle.model.specs.Cases.{EdgesCase, Outside, Strays, PlaceCase, RangeCase, SpotCase, CellCase, Reached, LongPiece, LongCase, StrangerCase}
+use Rattle.model.specs.Cases.{EdgesCase, Outside, Strays, PlaceCase, MarkCase, RangeCase, SpotCase, CellCase, Reached, LongPiece, LongCase, StrangerCase}
 use Rattle.ranges.specs.Equal.{begins-is, begins-self}
 
 -- ---- tests that fail
@@ -119,6 +120,87 @@ placed-row (suc n) (v ∷ vs) = as-well (coordinate v && placed n vs) _ _ (eithe
     from (suc i, inl h) = inr (i, inl (omega (arith, h .0), h .1))
     from (suc i, inr h) = inr (i, inr (omega (arith, h .0), h .1))
 
+-- ---- of a mark and the numbers from its place on
+one-row : (z : ℤ) → Just (isOne z) (z ≡ pos 1 → ⊥)
+unfolding isOne
+one-row (pos n) = ((λ e h. eqb-false n 1 e (cc)), (λ h. go (eqb n 1) refl h))
+  where
+    go : (t : Bool) → eqb n 1 ≡ t → (pos n ≡ pos 1 → ⊥) → t ≡ false
+    go true e h = absurd (h (ap pos (eqb-true n 1 e)))
+    go false e h = refl
+one-row (negsuc n) = ((λ e h. absurd (subst T (sym (ap isOne h)) tt)), (λ h. refl))
+
+abbrev Spared : List ℤ → ℕ → Type 0
+Spared vs i = (k : ℕ) × (4 ≤ k) × (k < 8) × (getD vs (8 * i + k) (pos 0) ≡ pos 0 → ⊥)
+
+abbrev Nonzero : List ℤ → ℕ → Type 0
+Nonzero vs k = getD vs k (pos 0) ≡ pos 0 → ⊥
+
+spare-row : (vs : List ℤ) → Just (spare vs) (Spared vs 0)
+unfolding spare
+spare-row vs = as-well (spare vs) _ _
+    (either _ _ _ _ (zero-row (getD vs 4 (pos 0))) (either _ _ _ _ (zero-row (getD vs 5 (pos 0))) (either _ _ _ _ (zero-row (getD vs 6 (pos 0))) (zero-row (getD vs 7 (pos 0)))))) to from
+  where
+    to : Nonzero vs 4 ⊎ (Nonzero vs 5 ⊎ (Nonzero vs 6 ⊎ Nonzero vs 7)) → Spared vs 0
+    to (inl h) = (4, omega arith, omega arith, h)
+    to (inr (inl h)) = (5, omega arith, omega arith, h)
+    to (inr (inr (inl h))) = (6, omega arith, omega arith, h)
+    to (inr (inr (inr h))) = (7, omega arith, omega arith, h)
+
+    at : (k n : ℕ) → k ≡ n → (getD vs (8 * 0 + k) (pos 0) ≡ pos 0 → ⊥) → Nonzero vs n
+    at k n e h = subst (Nonzero vs) (let z : 8 * 0 + k ≡ n = omega arith in z) h
+
+    from : Spared vs 0 → Nonzero vs 4 ⊎ (Nonzero vs 5 ⊎ (Nonzero vs 6 ⊎ Nonzero vs 7))
+    from (k, a, b, h) = go (eqb k 4) (eqb k 5) (eqb k 6) refl refl refl
+      where
+        go : (p q r : Bool) → eqb k 4 ≡ p → eqb k 5 ≡ q → eqb k 6 ≡ r → Nonzero vs 4 ⊎ (Nonzero vs 5 ⊎ (Nonzero vs 6 ⊎ Nonzero vs 7))
+        go true q r e f g = inl (at k 4 (eqb-true k 4 e) h)
+        go false true r e f g = inr (inl (at k 5 (eqb-true k 5 f) h))
+        go false false true e f g = inr (inr (inl (at k 6 (eqb-true k 6 g) h)))
+        go false false false e f g = inr (inr (inr (at k 7 (let x = eqb-false k 4 e in let y = eqb-false k 5 f in let z = eqb-false k 6 g in omega arith) h)))
+
+neither : (a b : Bool) (P Q : Type 0) → Just a P → Just b Q → Just (a || b) (P × Q)
+neither true b P Q p q = ((λ e. absurd (subst T e tt)), (λ h. p .1 (h .0)))
+neither false b P Q p q = ((λ e. (p .0 refl, q .0 e)), (λ h. q .1 (h .1)))
+
+kind-row : (m : ℤ) (vs : List ℤ) → Just (kind m vs) ((m ≡ pos 0 → ⊥) × ((m ≡ pos 1 → ⊥) ⊎ Spared vs 0))
+unfolding kind
+kind-row m vs = neither (isZero m) (isOne m && spare vs) _ _ (zero-row m) (either (isOne m) (spare vs) _ _ (one-row m) (spare-row vs))
+
+-- the first mark, or one after it
+abbrev Stamped : ℕ → List ℤ → List ℤ → Type 0
+Stamped n ms vs = (i : ℕ) × MarkCase n ms vs i
+
+later : (vs : List ℤ) (i k : ℕ) → getD (drop 8 vs) (8 * i + k) (pos 0) ≡ getD vs (8 * suc i + k) (pos 0)
+later vs i k = getD-drop 8 vs (8 * i + k) (pos 0) ∙ ap (λ n. getD vs n (pos 0)) (let z : 8 + (8 * i + k) ≡ 8 * suc i + k = omega arith in z)
+
+marked-row : (n : ℕ) (ms vs : List ℤ) → Just (marked n ms vs) (Stamped n ms vs)
+unfolding marked
+marked-row n [] vs = ((λ e. absurd (subst T e tt)), (λ h. absurd (h .1 .0 refl)))
+marked-row zero (m ∷ ms) vs = as-well (isZero m && marked 0 ms (drop 8 vs)) _ _ (either (isZero m) (marked 0 ms (drop 8 vs)) _ _ (zero-row m) (marked-row 0 ms (drop 8 vs))) to from
+  where
+    to : (m ≡ pos 0 → ⊥) ⊎ Stamped 0 ms (drop 8 vs) → Stamped 0 (m ∷ ms) vs
+    to (inl h) = (0, (h, inl (omega arith)))
+    to (inr (i, h)) = (suc i, (h .0, inl (omega arith)))
+
+    from : Stamped 0 (m ∷ ms) vs → (m ≡ pos 0 → ⊥) ⊎ Stamped 0 ms (drop 8 vs)
+    from (zero, h) = inl (h .0)
+    from (suc i, h) = inr (i, (h .0, inl (omega arith)))
+marked-row (suc n) (m ∷ ms) vs = as-well (kind m vs && marked n ms (drop 8 vs)) _ _ (either (kind m vs) (marked n ms (drop 8 vs)) _ _ (kind-row m vs) (marked-row n ms (drop 8 vs))) to from
+  where
+    to : ((m ≡ pos 0 → ⊥) × ((m ≡ pos 1 → ⊥) ⊎ Spared vs 0)) ⊎ Stamped n ms (drop 8 vs) → Stamped (suc n) (m ∷ ms) vs
+    to (inl h) = (0, (h .0, inr (h .1)))
+    to (inr (i, (h, inl l))) = (suc i, (h, inl (omega (arith, l))))
+    to (inr (i, (h, inr (inl o)))) = (suc i, (h, inr (inl o)))
+    to (inr (i, (h, inr (inr (k, a, b, z))))) = (suc i, (h, inr (inr (k, a, b, λ e. z (later vs i k ∙ e)))))
+
+    from : Stamped (suc n) (m ∷ ms) vs → ((m ≡ pos 0 → ⊥) × ((m ≡ pos 1 → ⊥) ⊎ Spared vs 0)) ⊎ Stamped n ms (drop 8 vs)
+    from (zero, (h, inl l)) = absurd (omega (arith, l))
+    from (zero, (h, inr q)) = inl (h, q)
+    from (suc i, (h, inl l)) = inr (i, (h, inl (omega (arith, l))))
+    from (suc i, (h, inr (inl o))) = inr (i, (h, inr (inl o)))
+    from (suc i, (h, inr (inr (k, a, b, z)))) = inr (i, (h, inr (inr (k, a, b, λ e. z (sym (later vs i k) ∙ e)))))
+
 pub range-row : (j : Job) → Just (ranged j) (RangeCase j)
 unfolding ranged
 range-row j =
@@ -127,7 +209,8 @@ range-row j =
     (either _ _ _ _ (between-row (pos 0) (pos 20) (j .n))
     (either _ _ _ _ (between-row (pos 0) (pos 20) (j .m))
     (either _ _ _ _ (between-row (pos 1) (pos 1000000) (j .reach))
-    (either _ _ _ _ (between-row (pos 1) (pos 100000) (j .grain)) (placed-row (8 * j .count) (j .places)))))))
+    (either _ _ _ _ (between-row (pos 1) (pos 100000) (j .grain))
+    (either _ _ _ _ (placed-row (8 * j .count) (j .places)) (marked-row (j .count) (j .marks) (j .places))))))))
 
 pub spot-row : (x y : ℤ) → Just (coordinate x && coordinate y) (SpotCase x y)
 spot-row x y = either (coordinate x) (coordinate y) _ _ (coordinate-row x) (coordinate-row y)
@@ -203,26 +286,26 @@ module _ (G : ℤ) (e : Edge) where
   long-tree k (r, p) = up 10 0 10 k (omega arith) r (end-long 10 k p)
 
 -- of several edges
-abbrev SomePiece : ℤ → List ℤ → ℕ → Type 0
-SomePiece G vs i = (k : ℕ) × LongPiece G (edgeAt vs i) k
+abbrev SomePiece : ℤ → List ℤ → List ℤ → ℕ → Type 0
+SomePiece G ms vs i = (k : ℕ) × LongPiece G (edgeAt ms vs i) k
 
-abbrev SomeLong : ℤ → List ℤ → ℕ → ℕ → Type 0
-SomeLong G vs n a = (i : ℕ) × (i < n) × SomePiece G vs (a + i)
+abbrev SomeLong : ℤ → List ℤ → List ℤ → ℕ → ℕ → Type 0
+SomeLong G ms vs n a = (i : ℕ) × (i < n) × SomePiece G ms vs (a + i)
 
-any-long : (G : ℤ) (vs : List ℤ) (n a : ℕ) → anyLong (trees G (edgesFrom vs n a)) ≡ true → SomeLong G vs n a
+any-long : (G : ℤ) (ms vs : List ℤ) (n a : ℕ) → anyLong (trees G (edgesFrom ms vs n a)) ≡ true → SomeLong G ms vs n a
 unfolding edgesFrom
-any-long G vs zero a h = absurd (subst T (sym h) tt)
-any-long G vs (suc n) a h = go (or-true (isLong (tree G (edgeAt vs a))) (anyLong (trees G (edgesFrom vs n (a + 1)))) h) (any-long G vs n (a + 1))
+any-long G ms vs zero a h = absurd (subst T (sym h) tt)
+any-long G ms vs (suc n) a h = go (or-true (isLong (tree G (edgeAt ms vs a))) (anyLong (trees G (edgesFrom ms vs n (a + 1)))) h) (any-long G ms vs n (a + 1))
   where
-    go : (isLong (tree G (edgeAt vs a)) ≡ true) ⊎ (anyLong (trees G (edgesFrom vs n (a + 1))) ≡ true) → (anyLong (trees G (edgesFrom vs n (a + 1))) ≡ true → SomeLong G vs n (a + 1)) → SomeLong G vs (suc n) a
-    go (inl h) ih = (0, omega arith, subst (SomePiece G vs) (let z : a ≡ a + 0 = omega arith in z) (tree-long G (edgeAt vs a) h))
-    go (inr h) ih = let r = ih h in (suc (r .0), omega (arith, r .1), subst (SomePiece G vs) (let z : (a + 1) + r .0 ≡ a + suc (r .0) = omega arith in z) (r .2))
+    go : (isLong (tree G (edgeAt ms vs a)) ≡ true) ⊎ (anyLong (trees G (edgesFrom ms vs n (a + 1))) ≡ true) → (anyLong (trees G (edgesFrom ms vs n (a + 1))) ≡ true → SomeLong G ms vs n (a + 1)) → SomeLong G ms vs (suc n) a
+    go (inl h) ih = (0, omega arith, subst (SomePiece G ms vs) (let z : a ≡ a + 0 = omega arith in z) (tree-long G (edgeAt ms vs a) h))
+    go (inr h) ih = let r = ih h in (suc (r .0), omega (arith, r .1), subst (SomePiece G ms vs) (let z : (a + 1) + r .0 ≡ a + suc (r .0) = omega arith in z) (r .2))
 
-long-any : (G : ℤ) (vs : List ℤ) (n a i : ℕ) → i < n → SomePiece G vs (a + i) → anyLong (trees G (edgesFrom vs n a)) ≡ true
+long-any : (G : ℤ) (ms vs : List ℤ) (n a i : ℕ) → i < n → SomePiece G ms vs (a + i) → anyLong (trees G (edgesFrom ms vs n a)) ≡ true
 unfolding edgesFrom
-long-any G vs zero a i l p = absurd (omega arith)
-long-any G vs (suc n) a zero l p = let q = subst (SomePiece G vs) (let z : a + 0 ≡ a = omega arith in z) p in rw (long-tree G (edgeAt vs a) (q .0) (q .1))
-long-any G vs (suc n) a (suc i) l p = rw (long-any G vs n (a + 1) i (omega arith) (subst (SomePiece G vs) (let z : a + suc i ≡ (a + 1) + i = omega arith in z) p), or-yes (isLong (tree G (edgeAt vs a))))
+long-any G ms vs zero a i l p = absurd (omega arith)
+long-any G ms vs (suc n) a zero l p = let q = subst (SomePiece G ms vs) (let z : a + 0 ≡ a = omega arith in z) p in rw (long-tree G (edgeAt ms vs a) (q .0) (q .1))
+long-any G ms vs (suc n) a (suc i) l p = rw (long-any G ms vs n (a + 1) i (omega arith) (subst (SomePiece G ms vs) (let z : a + suc i ≡ (a + 1) + i = omega arith in z) p), or-yes (isLong (tree G (edgeAt ms vs a))))
 
 pub long-row : (j : Job) → Just (not (anyLong (forest j))) (LongCase j)
 unfolding forest outline
@@ -232,10 +315,10 @@ long-row j = denied (anyLong (forest j)) (LongCase j) some each
     from i = omega arith
 
     some : anyLong (forest j) ≡ true → LongCase j
-    some h = let r = any-long (j .grain) (j .places) (j .count) 0 h in (r .0, r .1, subst (SomePiece (j .grain) (j .places)) (from (r .0)) (r .2))
+    some h = let r = any-long (j .grain) (j .marks) (j .places) (j .count) 0 h in (r .0, r .1, subst (SomePiece (j .grain) (j .marks) (j .places)) (from (r .0)) (r .2))
 
     each : LongCase j → anyLong (forest j) ≡ true
-    each (i, l, p) = long-any (j .grain) (j .places) (j .count) 0 i l (subst (SomePiece (j .grain) (j .places)) (sym (from i)) p)
+    each (i, l, p) = long-any (j .grain) (j .marks) (j .places) (j .count) 0 i l (subst (SomePiece (j .grain) (j .marks) (j .places)) (sym (from i)) p)
 
 -- ---- 8
 pub stranger-row : (j : Job) (lent : List ℤ) → Just (begins lent (storeOf j)) (StrangerCase j lent)

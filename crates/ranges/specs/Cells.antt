@@ -14,7 +14,7 @@ use Rattle.integers.specs.Order.{_≼_, ≼-pos}
 use Rattle.integers.specs.Omega.{zarith}
 use Rattle.model.specs.declared.Job.{Job}
 use Rattle.model.specs.Refusals.{space}
-use Rattle.model.specs.Jobs.{between, coordinate, isZero, placed, counted, ranged, celled, own, judge, plateLog, cellLog}
+use Rattle.model.specs.Jobs.{between, coordinate, isZero, placed, kind, marked, counted, ranged, celled, own, judge, plateLog, cellLog}
 use Rattle.model.specs.Plates.{columns, cellsOf}
 use Rattle.model.specs.Entries.{treesChecks, mapRefusal}
 use Rattle.model.specs.Promises.{MapRoom, MapFills}
@@ -48,11 +48,11 @@ map-room j store cells h e =
 
 -- a plate of 256 by 256 cells
 abbrev widest : Job
-widest = record { x = pos 0; y = pos 0; n = pos 8; m = pos 0; reach = pos 1; grain = pos 1; count = 1; places = replicate 512 (pos 0) }
+widest = record { x = pos 0; y = pos 0; n = pos 8; m = pos 0; reach = pos 1; grain = pos 1; count = 1; places = replicate 512 (pos 0); marks = replicate 64 (pos 0) }
 
 pub map-fills : MapFills
-unfolding judge counted ranged coordinate between placed isZero celled
-map-fills = (widest, refl, refl, refl)
+unfolding judge counted ranged coordinate between placed marked kind isZero celled
+map-fills = (widest, (refl, refl), refl, refl)
 
 -- ---- the program's own call
 pub lent-room : (j : Job) → mapRefusal j (replicate 16380 (pos 0)) (replicate 65536 0) ≡ 7 → ⊥

@@ -1,7 +1,7 @@
 -- What a legal job has, as the code over its trees asks for it: its places' and its grain's sizes, and trees whose strips are sized.
 -- Assumes nothing.
 use mathlib.Core.Path.{_≡_, sym, subst}
-use mathlib.Core.Bool.{true}
+use mathlib.Core.Bool.{Bool, true, false, cond}
 use mathlib.Core.List.{List, [], _∷_}
 use Prim.Native.Nat.{ℕ, zero, suc, _+_, _*_, _≤_}
 use native.Mathlib.Omega.{arith}
@@ -11,7 +11,7 @@ use lib.Signed.{nonNeg}
 use lib.ListN.{getD}
 use Rattle.integers.specs.Tests.{both}
 use Rattle.model.specs.declared.Job.{Job}
-use Rattle.model.specs.Jobs.{coordinate, isZero, placed, cubicAt, edgeAt, edgesFrom, outline}
+use Rattle.model.specs.Jobs.{cubic, line, coordinate, isZero, placed, componentAt, edgeAt, edgesFrom, outline}
 use Rattle.model.specs.Store.{forest}
 use Rattle.ranges.specs.Legal.{coordinate-true, coordinate-size, natural, Legal}
 use Rattle.ranges.specs.Sizes.{grainMost, ControlSized, EachSized}
@@ -34,16 +34,20 @@ placed-in zero (v ∷ vs) e (suc i) = placed-in zero vs (both (isZero v) (placed
 placed-in (suc k) (v ∷ vs) e zero = coordinate-size v (coordinate-true (both (coordinate v) (placed k vs) e .0))
 placed-in (suc k) (v ∷ vs) e (suc i) = placed-in k vs (both (coordinate v) (placed k vs) e .1) i
 
-control-sized : (l : List ℤ) → Limits l → (k : ℕ) → ControlSized (cubicAt l k)
-control-sized l h k = record { b0-size = h .within k; b1-size = h .within (k + 2); b2-size = h .within (k + 4); b3-size = h .within (k + 6) }
+pub control-sized : (mark : ℤ) (l : List ℤ) → Limits l → (k : ℕ) → ControlSized (componentAt mark l k)
+control-sized mark l h k = go (isZero mark)
+  where
+    go : (t : Bool) → ControlSized (cond t (cubic (getD l k (pos 0)) (getD l (k + 2) (pos 0)) (getD l (k + 4) (pos 0)) (getD l (k + 6) (pos 0))) (line (getD l k (pos 0)) (getD l (k + 2) (pos 0))))
+    go true = record { b0-size = h .within k; b1-size = h .within (k + 2); b2-size = h .within (k + 4); b3-size = h .within (k + 6) }
+    go false = record { a-size = h .within k; b-size = h .within (k + 2) }
 
-pub edge-sized : (l : List ℤ) → Limits l → (e : ℕ) → EdgeSized (edgeAt l e)
-edge-sized l h e = record { x-control = control-sized l h (8 * e + 0); y-control = control-sized l h (8 * e + 1) }
+edge-sized : (ms l : List ℤ) → Limits l → (e : ℕ) → EdgeSized (edgeAt ms l e)
+edge-sized ms l h e = record { x-control = control-sized (getD ms e (pos 0)) l h (8 * e + 0); y-control = control-sized (getD ms e (pos 0)) l h (8 * e + 1) }
 
-edges-sized : (l : List ℤ) → Limits l → (k e : ℕ) → EdgesSized (edgesFrom l k e)
+edges-sized : (ms l : List ℤ) → Limits l → (k e : ℕ) → EdgesSized (edgesFrom ms l k e)
 unfolding edgesFrom
-edges-sized l h zero e = tt
-edges-sized l h (suc k) e = (edge-sized l h e, edges-sized l h k (e + 1))
+edges-sized ms l h zero e = tt
+edges-sized ms l h (suc k) e = (edge-sized ms l h e, edges-sized ms l h k (e + 1))
 
 -- ---- a grain in range
 pub record GrainSized (t : ℤ) : Type 0 where
@@ -60,4 +64,4 @@ places-limited {j} l = record { within = placed-in (8 * j .count) (j .places) (l
 
 pub forest-sized : (j : Job) → Legal j → EachSized (forest j)
 unfolding forest outline
-forest-sized j l = trees-sized (j .grain) (edgesFrom (j .places) (j .count) 0) (edges-sized (j .places) (places-limited l) (j .count) 0)
+forest-sized j l = trees-sized (j .grain) (edgesFrom (j .marks) (j .places) (j .count) 0) (edges-sized (j .marks) (j .places) (places-limited l) (j .count) 0)

@@ -7,11 +7,11 @@ use lib.Dec.{T}
 use lib.IntN.{ℤ, pos, natAbs, _+ℤ_, _-ℤ_, _*ℤ_}
 use lib.Signed.{nonNeg}
 use Rattle.integers.specs.Absolute.{absℤ}
-use Rattle.model.specs.Jobs.{Cubic}
-use Rattle.model.specs.Strips.{PowerForm, powerOf, denominator, a0, a1, a2, centreOf, axisOf, secondOf, thirdOf, boxOf, sideAt}
+use Rattle.integers.specs.Whole.{rest-most}
+use Rattle.model.specs.Strips.{PowerForm, powerOf, denominator, a0, a1, a2, centreOf, axisOf, secondOf, thirdOf, boxOf, curved, centreTop, axisTop, straight}
 use Rattle.model.specs.Trees.{deepest}
 use Rattle.ranges.specs.Bounds.{add-in, sub-in, mul-in, nearest-in}
-use Rattle.ranges.specs.Sizes.{controlMost, ControlSized, SideSized}
+use Rattle.ranges.specs.Sizes.{controlMost, CubicSized, LineSized, SideSized}
 
 -- ---- the coefficients, from control numbers that are coordinates
 abbrev pub c0Most : ℕ
@@ -32,20 +32,27 @@ pub record FormSized (c : PowerForm) : Type 0 where
   pub c2-size : natAbs (c .c2) ≤ c2Most
   pub c3-size : natAbs (c .c3) ≤ c3Most
 
-pub form-sized : (b : Cubic) → ControlSized b → FormSized (powerOf b)
-form-sized b h = record {
+pub form-sized : (b0 b1 b2 b3 : ℤ) → CubicSized b0 b1 b2 b3 → FormSized (powerOf b0 b1 b2 b3)
+form-sized b0 b1 b2 b3 h = record {
   c0-size = h .b0-size;
-  c1-size = mul-in (pos 3) (b .b1 -ℤ b .b0) 3 (controlMost + controlMost) (le-refl 3) (sub-in (b .b1) (b .b0) controlMost controlMost (h .b1-size) (h .b0-size));
-  c2-size = mul-in (pos 3) (b .b0 -ℤ pos 2 *ℤ b .b1 +ℤ b .b2) 3 (controlMost + 2 * controlMost + controlMost) (le-refl 3)
-      (add-in (b .b0 -ℤ pos 2 *ℤ b .b1) (b .b2) (controlMost + 2 * controlMost) controlMost
-      (sub-in (b .b0) (pos 2 *ℤ b .b1) controlMost (2 * controlMost) (h .b0-size) (mul-in (pos 2) (b .b1) 2 controlMost (le-refl 2) (h .b1-size)))
+  c1-size = mul-in (pos 3) (b1 -ℤ b0) 3 (controlMost + controlMost) (le-refl 3) (sub-in b1 b0 controlMost controlMost (h .b1-size) (h .b0-size));
+  c2-size = mul-in (pos 3) (b0 -ℤ pos 2 *ℤ b1 +ℤ b2) 3 (controlMost + 2 * controlMost + controlMost) (le-refl 3)
+      (add-in (b0 -ℤ pos 2 *ℤ b1) b2 (controlMost + 2 * controlMost) controlMost
+      (sub-in b0 (pos 2 *ℤ b1) controlMost (2 * controlMost) (h .b0-size) (mul-in (pos 2) b1 2 controlMost (le-refl 2) (h .b1-size)))
       (h .b2-size));
-  c3-size = sub-in (b .b3 -ℤ pos 3 *ℤ b .b2 +ℤ pos 3 *ℤ b .b1) (b .b0) (controlMost + 3 * controlMost + 3 * controlMost) controlMost
-      (add-in (b .b3 -ℤ pos 3 *ℤ b .b2) (pos 3 *ℤ b .b1) (controlMost + 3 * controlMost) (3 * controlMost)
-      (sub-in (b .b3) (pos 3 *ℤ b .b2) controlMost (3 * controlMost) (h .b3-size) (mul-in (pos 3) (b .b2) 3 controlMost (le-refl 3) (h .b2-size)))
-      (mul-in (pos 3) (b .b1) 3 controlMost (le-refl 3) (h .b1-size)))
+  c3-size = sub-in (b3 -ℤ pos 3 *ℤ b2 +ℤ pos 3 *ℤ b1) b0 (controlMost + 3 * controlMost + 3 * controlMost) controlMost
+      (add-in (b3 -ℤ pos 3 *ℤ b2) (pos 3 *ℤ b1) (controlMost + 3 * controlMost) (3 * controlMost)
+      (sub-in b3 (pos 3 *ℤ b2) controlMost (3 * controlMost) (h .b3-size) (mul-in (pos 3) b2 3 controlMost (le-refl 3) (h .b2-size)))
+      (mul-in (pos 3) b1 3 controlMost (le-refl 3) (h .b1-size)))
       (h .b0-size);
 }
+
+-- a line's form, from a to b, is as small
+abbrev pub lineForm : ℤ → ℤ → PowerForm
+lineForm a b = record { c0 = a; c1 = b -ℤ a; c2 = pos 0; c3 = pos 0 }
+
+pub line-sized : (a b : ℤ) → LineSized a b → FormSized (lineForm a b)
+line-sized a b h = record { c0-size = h .a-size; c1-size = le-trans (sub-in b a controlMost controlMost (h .b-size) (h .a-size)) (omega arith); c2-size = omega arith; c3-size = omega arith }
 
 -- ---- a0, a1 and a2, of which each term is at most its coefficient times N³, N² and N: m is at most N
 abbrev pub a0Share : ℕ
@@ -160,11 +167,30 @@ module _ (c : PowerForm) (n m : ℕ) (s : FormSized c) (h : 2 ≤ n) (k : m ≤ 
   box-above = sum-above (natAbs (secondOf c (pos n) (pos m) (n * n * n))) (natAbs (thirdOf c (n * n * n)))
 
   -- every strip's numbers are within the sizes that code counts on
-  pub by-sized : SideSized (sideAt c n m)
-  unfolding sideAt
-  by-sized = record {
+  pub curved-sized : SideSized (curved c n m)
+  unfolding curved
+  curved-sized = record {
     centre-size = omega (arith, centre-in);
     axis-size = omega (arith, axis-in);
     box-size = omega (arith, box-in);
     box-above = box-above;
+  }
+
+  -- ---- of a line, from c0 by c1
+  centre-top-in : natAbs (centreTop (c .c0) (c .c1) (pos n) (pos m)) ≤ 16 * (c0Most + c1Most) * n
+  centre-top-in = le-trans
+      (mul-in (pos 16) (c .c0 *ℤ pos n +ℤ c .c1 *ℤ pos m) 16 (c0Most * n + c1Most * n) (le-refl 16)
+      (add-in (c .c0 *ℤ pos n) (c .c1 *ℤ pos m) (c0Most * n) (c1Most * n) (mul-in (c .c0) (pos n) c0Most n (s .c0-size) (le-refl n)) (mul-in (c .c1) (pos m) c1Most n (s .c1-size) k)))
+      (omega arith)
+
+  axis-top-in : natAbs (axisTop (c .c1)) ≤ 16 * c1Most * n
+  axis-top-in = le-trans (mul-in (pos 16) (c .c1) 16 c1Most (le-refl 16) (s .c1-size)) (omega arith)
+
+  pub straight-sized : SideSized (straight (c .c0) (c .c1) n m)
+  unfolding straight
+  straight-sized = record {
+    centre-size = omega (arith, nearest-in (centreTop (c .c0) (c .c1) (pos n) (pos m)) n (16 * (c0Most + c1Most)) (omega arith) centre-top-in);
+    axis-size = omega (arith, nearest-in (axisTop (c .c1)) n (16 * c1Most) (omega arith) axis-top-in);
+    box-size = omega (arith, rest-most (centreTop (c .c0) (c .c1) (pos n) (pos m)) n, rest-most (axisTop (c .c1)) n);
+    box-above = tt;
   }

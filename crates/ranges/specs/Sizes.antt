@@ -4,21 +4,29 @@
 use mathlib.Core.List.{List, [], _∷_}
 use Prim.Native.Nat.{ℕ, _≤_}
 use lib.Dec.{T}
-use lib.IntN.{natAbs}
+use lib.IntN.{ℤ, natAbs}
 use lib.Signed.{nonNeg}
-use Rattle.model.specs.Jobs.{Cubic}
+use Rattle.model.specs.Jobs.{Component, cubic, line}
 use Rattle.model.specs.Strips.{Side, Strip}
 use Rattle.model.specs.Trees.{Tree, leaf, long, node}
 
--- ---- the control numbers of an edge are coordinates
+-- ---- the control numbers and the ends of an edge are coordinates
 abbrev pub controlMost : ℕ
 controlMost = 1000000
 
-pub record ControlSized (b : Cubic) : Type 0 where
-  pub b0-size : natAbs (b .b0) ≤ controlMost
-  pub b1-size : natAbs (b .b1) ≤ controlMost
-  pub b2-size : natAbs (b .b2) ≤ controlMost
-  pub b3-size : natAbs (b .b3) ≤ controlMost
+pub record CubicSized (b0 b1 b2 b3 : ℤ) : Type 0 where
+  pub b0-size : natAbs b0 ≤ controlMost
+  pub b1-size : natAbs b1 ≤ controlMost
+  pub b2-size : natAbs b2 ≤ controlMost
+  pub b3-size : natAbs b3 ≤ controlMost
+
+pub record LineSized (a b : ℤ) : Type 0 where
+  pub a-size : natAbs a ≤ controlMost
+  pub b-size : natAbs b ≤ controlMost
+
+abbrev pub ControlSized : Component → Type 0
+ControlSized (cubic b0 b1 b2 b3) = CubicSized b0 b1 b2 b3
+ControlSized (line a b) = LineSized a b
 
 -- ---- a grain
 abbrev pub grainMost : ℕ

@@ -7,12 +7,12 @@ use native.Mathlib.Numerals.{add-one}
 use native.Mathlib.Nat.{pow-suc}
 use native.Mathlib.Omega.{arith}
 use lib.Pow.{pow-pos}
-use lib.IntN.{ℤ}
-use Rattle.model.specs.Jobs.{Cubic, Edge}
+use lib.IntN.{ℤ, _-ℤ_}
+use Rattle.model.specs.Jobs.{Component, cubic, line, Edge}
 use Rattle.model.specs.Strips.{Strip, denominator, middle, powerOf, sideAt, strip, short}
 use Rattle.model.specs.Trees.{leaf, long, node, pieces, deepest, tree, trees}
 use Rattle.ranges.specs.Sizes.{ControlSized, SideSized, Sized, AllSized, EachSized}
-use Rattle.ranges.specs.PowerForm.{form-sized, by-sized}
+use Rattle.ranges.specs.PowerForm.{form-sized, lineForm, line-sized, curved-sized, straight-sized}
 
 pub record EdgeSized (e : Edge) : Type 0 where
   pub x-control : ControlSized (e .x)
@@ -22,8 +22,10 @@ abbrev pub EdgesSized : List Edge → Type 0
 EdgesSized [] = Unit {0}
 EdgesSized (e ∷ es) = EdgeSized e × EdgesSized es
 
-pub side-sized : (b : Cubic) (n m : ℕ) → ControlSized b → 2 ≤ n → m ≤ n → SideSized (sideAt (powerOf b) n m)
-side-sized b n m h i k = by-sized (powerOf b) n m (form-sized b h) i k
+pub side-sized : (b : Component) (n m : ℕ) → ControlSized b → 2 ≤ n → m ≤ n → SideSized (sideAt b n m)
+unfolding sideAt
+side-sized (cubic b0 b1 b2 b3) n m h i k = curved-sized (powerOf b0 b1 b2 b3) n m (form-sized b0 b1 b2 b3 h) i k
+side-sized (line a b) n m h i k = straight-sized (lineForm a b) n m (line-sized a b h) i k
 
 denominator-is : (d : ℕ) → denominator d ≡ 2 * 2 ^ d
 denominator-is d = rw (add-one d, pow-suc 2 d) (omega arith)
