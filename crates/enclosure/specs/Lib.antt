@@ -1,4 +1,5 @@
 -- A strip encloses its piece; the tree of an edge covers the edge's curve.
-pub mod Piece
+pub mod Cubic
+pub mod Line
 pub mod Covers
 pub mod Edges

@@ -27,33 +27,33 @@ pub few-nodes : (g : ℤ) (e : Edge) → size (tree g e) < 2048
 unfolding tree
 few-nodes g e = few g (strip e) 0 0
 
-pub few-trees : (g : ℤ) (l : List ℤ) (k e : ℕ) → sizes (trees g (edgesFrom l k e)) ≤ 2047 * k
+pub few-trees : (g : ℤ) (ms l : List ℤ) (k e : ℕ) → sizes (trees g (edgesFrom ms l k e)) ≤ 2047 * k
 unfolding edgesFrom
-few-trees g l zero e = omega arith
-few-trees g l (suc k) e = omega (arith, few-nodes g (edgeAt l e), few-trees g l k (e + 1))
+few-trees g ms l zero e = omega arith
+few-trees g ms l (suc k) e = omega (arith, few-nodes g (edgeAt ms l e), few-trees g ms l k (e + 1))
 
-pub many-trees : (g : ℤ) (l : List ℤ) (k e : ℕ) → length (trees g (edgesFrom l k e)) ≡ k
+pub many-trees : (g : ℤ) (ms l : List ℤ) (k e : ℕ) → length (trees g (edgesFrom ms l k e)) ≡ k
 unfolding edgesFrom
-many-trees g l zero e = refl
-many-trees g l (suc k) e = ap suc (many-trees g l k (e + 1))
+many-trees g ms l zero e = refl
+many-trees g ms l (suc k) e = ap suc (many-trees g ms l k (e + 1))
 
-pub some-node : (g : ℤ) (l : List ℤ) (k e : ℕ) → 1 ≤ k → 1 ≤ sizes (trees g (edgesFrom l k e))
+pub some-node : (g : ℤ) (ms l : List ℤ) (k e : ℕ) → 1 ≤ k → 1 ≤ sizes (trees g (edgesFrom ms l k e))
 unfolding edgesFrom
-some-node g l zero e h = absurd (omega arith)
-some-node g l (suc k) e h = omega (arith, size-pos (tree g (edgeAt l e)))
+some-node g ms l zero e h = absurd (omega arith)
+some-node g ms l (suc k) e h = omega (arith, size-pos (tree g (edgeAt ms l e)))
 
 -- ---- of a legal job
-pub forest-is : (j : Job) → forest j ≡ trees (j .grain) (edgesFrom (j .places) (j .count) 0)
+pub forest-is : (j : Job) → forest j ≡ trees (j .grain) (edgesFrom (j .marks) (j .places) (j .count) 0)
 unfolding forest outline
 forest-is j = refl
 
 pub forest-many : (j : Job) → length (forest j) ≡ j .count
 unfolding forest outline
-forest-many j = many-trees (j .grain) (j .places) (j .count) 0
+forest-many j = many-trees (j .grain) (j .marks) (j .places) (j .count) 0
 
 pub forest-few : (j : Job) → Legal j → nodesOf j ≤ 131008
 unfolding forest outline
-forest-few j h = omega (arith, few-trees (j .grain) (j .places) (j .count) 0, h .few)
+forest-few j h = omega (arith, few-trees (j .grain) (j .marks) (j .places) (j .count) 0, h .few)
 
 -- ---- a store for every job
 enough : (j : Job) (store : List ℤ) → judge j ≡ 0 → 917056 ≤ length store → leb (width * nodesOf j) (length store) ≡ false → ⊥

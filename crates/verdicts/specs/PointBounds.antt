@@ -146,8 +146,8 @@ trees-first ts t us e = subst (λ x. HasFirst (leavesAll x)) (sym e) (first-appe
 forest-first : (j : Job) → (k : ℕ) → j .count ≡ suc k → HasFirst (leavesAll (forest j))
 unfolding forest outline edgesFrom
 forest-first j k e =
-    trees-first (forest j) (tree (j .grain) (edgeAt (j .places) 0)) (trees (j .grain) (edgesFrom (j .places) k (0 + 1)))
-    (ap (λ n. trees (j .grain) (edgesFrom (j .places) n 0)) e)
+    trees-first (forest j) (tree (j .grain) (edgeAt (j .marks) (j .places) 0)) (trees (j .grain) (edgesFrom (j .marks) (j .places) k (0 + 1)))
+    (ap (λ n. trees (j .grain) (edgesFrom (j .marks) (j .places) n 0)) e)
 
 -- ---- the point itself
 itself : (x y : ℤ) → InCell (spot x y) (wholePoint x y)

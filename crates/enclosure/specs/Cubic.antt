@@ -1,4 +1,4 @@
--- One coordinate of a piece lies in the strip's: for e = E/D from −1 to 1, times D³. Assumes nothing.
+-- A cubic: one coordinate of a piece lies in the strip's, for e = E/D from −1 to 1, times D³. Assumes nothing.
 use mathlib.Core.Path.{_≡_, _∙_, ap}
 use Prim.Native.Nat.{ℕ, _*_, _<_}
 use native.Mathlib.Nat.{mul-pos}
@@ -9,8 +9,7 @@ use Rattle.integers.specs.Omega.{zarith}
 use Rattle.integers.specs.Inequalities.{from, _&_, weak}
 use Rattle.integers.specs.Absolute.{absℤ}
 use Rattle.integers.specs.Rounding.{nearest, nearest-near}
-use Rattle.model.specs.Jobs.{Cubic}
-use Rattle.model.specs.Strips.{powerOf, sideAt, a0, a1, a2, a3}
+use Rattle.model.specs.Strips.{Side, PowerForm, powerOf, curved, a0, a1, a2, a3}
 use Rattle.model.specs.Exact.{bernstein}
 use Rattle.integers.specs.Within.{Within, of-abs, own-abs, times, cancel}
 
@@ -44,7 +43,7 @@ module _ (E D : ℤ) (h : Within E D) where
   }
 
 -- ---- the piece's polynomial, at the parameter u/D = (m + e)/N with e = E/D, E = N·u − m·D
-cubic : (b0 b1 b2 b3 N m u D : ℤ) → (let b : Cubic = record { b0 = b0; b1 = b1; b2 = b2; b3 = b3 } in let E : ℤ = N *ℤ u -ℤ m *ℤ D in N ^ℤ 3 *ℤ bernstein b u (D -ℤ u) ≡ a0 (powerOf b) N m *ℤ D ^ℤ 3 +ℤ a1 (powerOf b) N m *ℤ (E *ℤ D ^ℤ 2) +ℤ a2 (powerOf b) N m *ℤ (E ^ℤ 2 *ℤ D) +ℤ a3 (powerOf b) *ℤ E ^ℤ 3)
+cubic : (b0 b1 b2 b3 N m u D : ℤ) → (let c : PowerForm = powerOf b0 b1 b2 b3 in let E : ℤ = N *ℤ u -ℤ m *ℤ D in N ^ℤ 3 *ℤ bernstein b0 b1 b2 b3 u (D -ℤ u) ≡ a0 c N m *ℤ D ^ℤ 3 +ℤ a1 c N m *ℤ (E *ℤ D ^ℤ 2) +ℤ a2 c N m *ℤ (E ^ℤ 2 *ℤ D) +ℤ a3 c *ℤ E ^ℤ 3)
 cubic b0 b1 b2 b3 N m u D = name₈ b0 b1 b2 b3 N m u D λ σ p0 p1 p2 p3 pN pm pu pD. simp (p0, p1, p2, p3, pN, pm, pu, pD, reify, σ) (close σ _ _ ok)
 
 -- sixteen times it, in the parts that Chebyshev bounds
@@ -78,18 +77,20 @@ module _ (n X A B S H z p s h W Y Y₂ Y₃ : ℤ) (up : pos 0 ≺ n) (rz : With
 nearly : (z : ℤ) (m : ℕ) → 0 < m → Within (pos 2 *ℤ (nearest z m *ℤ pos m -ℤ z)) (pos m)
 nearly z m h = of-abs (nearest-near z m h)
 
-pub coordinate : (b : Cubic) (n m : ℕ) (u D : ℤ) → 0 < n → Within (pos n *ℤ u -ℤ pos m *ℤ D) D → Within (pos 16 *ℤ bernstein b u (D -ℤ u) -ℤ sideAt (powerOf b) n m .centre *ℤ D ^ℤ 3 -ℤ sideAt (powerOf b) n m .axis *ℤ ((pos n *ℤ u -ℤ pos m *ℤ D) *ℤ D ^ℤ 2)) (sideAt (powerOf b) n m .box *ℤ D ^ℤ 3)
-unfolding sideAt
-coordinate b n m u D hn h =
+pub coordinate : (b0 b1 b2 b3 : ℤ) (n m : ℕ) (u D : ℤ) → 0 < n → Within (pos n *ℤ u -ℤ pos m *ℤ D) D → (let S : Side = curved (powerOf b0 b1 b2 b3) n m in Within (pos 16 *ℤ bernstein b0 b1 b2 b3 u (D -ℤ u) -ℤ S .centre *ℤ D ^ℤ 3 -ℤ S .axis *ℤ ((pos n *ℤ u -ℤ pos m *ℤ D) *ℤ D ^ℤ 2)) (S .box *ℤ D ^ℤ 3))
+unfolding curved
+coordinate b0 b1 b2 b3 n m u D hn h =
+    let c : PowerForm = powerOf b0 b1 b2 b3 in
     let E : ℤ = pos n *ℤ u -ℤ pos m *ℤ D in
+    let X : ℤ = bernstein b0 b1 b2 b3 u (D -ℤ u) in
     let n³ : ℕ = n * n * n in
     let up : 0 < n³ = mul-pos (mul-pos hn hn) hn in
-    let A : ℤ = pos 16 *ℤ a0 (powerOf b) (pos n) (pos m) +ℤ pos 8 *ℤ a2 (powerOf b) (pos n) (pos m) in
-    let B : ℤ = pos 16 *ℤ a1 (powerOf b) (pos n) (pos m) +ℤ pos 12 *ℤ a3 (powerOf b) in
-    let S : ℤ = pos 8 *ℤ a2 (powerOf b) (pos n) (pos m) in
-    let H : ℤ = pos 4 *ℤ a3 (powerOf b) in
-    close-by (pos n³) (bernstein b u (D -ℤ u)) A B S H (nearest A n³) (nearest B n³) (nearest S n³) (nearest H n³)
+    let A : ℤ = pos 16 *ℤ a0 c (pos n) (pos m) +ℤ pos 8 *ℤ a2 c (pos n) (pos m) in
+    let B : ℤ = pos 16 *ℤ a1 c (pos n) (pos m) +ℤ pos 12 *ℤ a3 c in
+    let S : ℤ = pos 8 *ℤ a2 c (pos n) (pos m) in
+    let H : ℤ = pos 4 *ℤ a3 c in
+    close-by (pos n³) X A B S H (nearest A n³) (nearest B n³) (nearest S n³) (nearest H n³)
     (D ^ℤ 3) (E *ℤ D ^ℤ 2) ((pos 2 *ℤ E ^ℤ 2 -ℤ D ^ℤ 2) *ℤ D) (pos 4 *ℤ E ^ℤ 3 -ℤ pos 3 *ℤ E *ℤ D ^ℤ 2)
     (pos-≺ up) (nearly A n³ up) (nearly B n³ up) (nearly S n³ up) (nearly H n³ up)
-    (parts (pos n³) (bernstein b u (D -ℤ u)) (a0 (powerOf b) (pos n) (pos m)) (a1 (powerOf b) (pos n) (pos m)) (a2 (powerOf b) (pos n) (pos m)) (a3 (powerOf b)) E D (cubic (b .b0) (b .b1) (b .b2) (b .b3) (pos n) (pos m) u D))
+    (parts (pos n³) X (a0 c (pos n) (pos m)) (a1 c (pos n) (pos m)) (a2 c (pos n) (pos m)) (a3 c) E D (cubic b0 b1 b2 b3 (pos n) (pos m) u D))
     (cube E D h) (first E D h) (second E D h) (third E D h)
