@@ -1,23 +1,27 @@
 // The power form of an edge, and the strip of a piece of it, in 64-bit numbers. RULES, "Strips".
 use nodes::Extent;
+use rounding::Quotient;
 ghost use mathlib.Core.Path.{_≡_};
+ghost use mathlib.Core.Bool.{cond};
 ghost use Prim.Native.Nat.{_≤_, _<_};
 ghost use lib.Dec.{T};
-ghost use lib.IntN.{natAbs};
+ghost use lib.IntN.{pos, natAbs};
 ghost use lib.Signed.{nonNeg};
-ghost use Rattle.model.specs.Strips.{powerOf, a0, a1, a2, centreOf, axisOf, secondOf, thirdOf, boxOf, sideAt, fits, short};
-ghost use Rattle.ranges.specs.Sizes.{grainMost, ControlSized, SideSized, Sized};
-ghost use Rattle.ranges.specs.PowerForm.{FormSized, nMost, cubeMost, a0Most, a1Most, a2Most, secondMost, thirdMost};
+ghost use Rattle.model.specs.Jobs.{cubic, line};
+ghost use Rattle.model.specs.Strips.{a0, a1, a2, centreOf, axisOf, secondOf, thirdOf, boxOf, curved, straight, sideAt, fits, short};
+ghost use Rattle.ranges.specs.Sizes.{grainMost, CubicSized, LineSized, SideSized, Sized};
+ghost use Rattle.ranges.specs.PowerForm.{FormSized, c0Most, c1Most, nMost, cubeMost, a0Most, a1Most, a2Most, secondMost, thirdMost};
 ghost use Rattle.subtrees.specs.Subtrees.{PieceAt};
 ghost use Rattle.nodes.specs.Structs.{side, stripOf};
-ghost use Rattle.strips.specs.Structs.{cubic, form, stripsOf, ShapeSized};
+ghost use Rattle.strips.specs.Structs.{form, sideBy, stripsOf, ShapeSized};
 
-// The power form in one coordinate.
+// The power form in one coordinate, and whether the edge is a line, whose c2 and c3 are 0.
 pub struct Power {
     pub c0: i64,
     pub c1: i64,
     pub c2: i64,
     pub c3: i64,
+    pub straight: bool,
 }
 
 // What an edge's strips are made from: here its power form in both coordinates. Code over pieces hands it on and looks no further.
@@ -37,8 +41,9 @@ pub struct Piece {
 pub const DEEPEST: usize = 10;
 
 pub fn power_form(b0: i64, b1: i64, b2: i64, b3: i64) -> Power
-    requires sizes { ⌜ ControlSized (cubic b0 b1 b2 b3) ⌝ }
-    ensures power { λ r. ⌜ form r ≡ powerOf (cubic b0 b1 b2 b3) ⌝ }
+    requires sizes { ⌜ CubicSized b0 b1 b2 b3 ⌝ }
+    ensures sides { λ r. ⌜ sideBy r ≡ sideAt (cubic b0 b1 b2 b3) ⌝ }
+    ensures sized { λ r. ⌜ FormSized (form r) ⌝ }
 {
     let c1 = 3 * (b1 - b0);
     let c2 = 3 * (b0 - 2 * b1 + b2);
@@ -48,6 +53,23 @@ pub fn power_form(b0: i64, b1: i64, b2: i64, b3: i64) -> Power
         c1: c1,
         c2: c2,
         c3: c3,
+        straight: false,
+    }
+}
+
+// of the line from a to b
+pub fn line_form(a: i64, b: i64) -> Power
+    requires sizes { ⌜ LineSized a b ⌝ }
+    ensures sides { λ r. ⌜ sideBy r ≡ sideAt (line a b) ⌝ }
+    ensures sized { λ r. ⌜ FormSized (form r) ⌝ }
+{
+    let c1 = b - a;
+    Power {
+        c0: a,
+        c1: c1,
+        c2: 0,
+        c3: 0,
+        straight: true,
     }
 }
 
@@ -116,10 +138,11 @@ fn box_of(c: Power, n: i64, m: i64, cube: i64) -> i64
     rounding::abs(second.nearest) + rounding::abs(third.nearest) + 2
 }
 
-// the strip of the piece with N = n and the middle m, in one coordinate
-fn extent_of(c: Power, n: usize, m: usize) -> Extent
+// ---- the strip of the piece with N = n and the middle m, in one coordinate
+
+fn curved_of(c: Power, n: usize, m: usize) -> Extent
     requires sizes { ⌜ FormSized (form c) × (2 ≤ n) × (n ≤ nMost) × (m ≤ n) ⌝ }
-    ensures strip { λ r. ⌜ side r ≡ sideAt (form c) n m ⌝ }
+    ensures strip { λ r. ⌜ side r ≡ curved (form c) n m ⌝ }
 {
     let a = n as i64;
     let b = m as i64;
@@ -132,6 +155,40 @@ fn extent_of(c: Power, n: usize, m: usize) -> Extent
         axis: axis,
         half: half,
     }
+}
+
+// what a rounding adds to a line's box
+fn slack(q: Quotient) -> i64
+    ensures slack { λ r. ⌜ r ≡ pos (cond (q .whole) 0 1) ⌝ }
+{
+    if q.whole { 0 } else { 1 }
+}
+
+// from a by g: two quotients by N
+fn straight_of(a: i64, g: i64, n: usize, m: usize) -> Extent
+    requires sizes { ⌜ (natAbs a ≤ c0Most) × (natAbs g ≤ c1Most) × (2 ≤ n) × (n ≤ nMost) × (m ≤ n) ⌝ }
+    ensures strip { λ r. ⌜ side r ≡ straight a g n m ⌝ }
+{
+    let p = n as i64;
+    let q = m as i64;
+    let centre = rounding::rounded(16 * (a * p + g * q), p);
+    let axis = rounding::rounded(16 * g, p);
+    let half = slack(centre) + slack(axis);
+    Extent {
+        centre: centre.nearest,
+        axis: axis.nearest,
+        half: half,
+    }
+}
+
+fn extent_of(c: Power, n: usize, m: usize) -> Extent
+    requires sizes { ⌜ FormSized (form c) × (2 ≤ n) × (n ≤ nMost) × (m ≤ n) ⌝ }
+    ensures strip { λ r. ⌜ side r ≡ sideBy c n m ⌝ }
+{
+    if c.straight {
+        return straight_of(c.c0, c.c1, n, m);
+    }
+    curved_of(c, n, m)
 }
 
 // ---- short: no upright box half above 16 grains

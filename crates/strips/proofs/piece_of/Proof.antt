@@ -9,10 +9,11 @@ use mir.Facts.{toZ-ofZ}
 use Rattle.model.specs.Strips.{Side, Strip, denominator, middle, short}
 use Rattle.model.specs.Trees.{deepest}
 use Rattle.ranges.specs.Sizes.{Sized}
-use Rattle.ranges.specs.PowerForm.{nMost, by-sized}
+use Rattle.ranges.specs.PowerForm.{nMost}
 use Rattle.subtrees.specs.Subtrees.{PieceAt}
 use Rattle.nodes.specs.Structs.{stripOf}
-use Rattle.strips.specs.Structs.{form, stripsOf}
+use Rattle.strips.specs.Structs.{stripsOf}
+use Rattle.strips.proofs.Coefficients.{by-sized}
 use Rattle.strips.proofs.piece_of.Statement.{statement}
 use Rattle.strips.proofs.piece_of.Tie as tie
 
@@ -69,8 +70,8 @@ module _ (c : tie.After-extent-of2) where
       let p = piece start in
       let f = start .pre .0 in
       subst Sized (sym strip-is) (record {
-        x-sized = by-sized (form (start .args .shape .x)) (denominator (start .args .d)) (middle (start .args .k)) (f .x-form) (p .two) (p .middle-in);
-        y-sized = by-sized (form (start .args .shape .y)) (denominator (start .args .d)) (middle (start .args .k)) (f .y-form) (p .two) (p .middle-in);
+        x-sized = by-sized (start .args .shape .x) (denominator (start .args .d)) (middle (start .args .k)) (f .x-form) (p .two) (p .middle-in);
+        y-sized = by-sized (start .args .shape .y) (denominator (start .args .d)) (middle (start .args .k)) (f .y-form) (p .two) (p .middle-in);
       })
 
 is-short-requires : tie.Need-is-short-requires

@@ -1,5 +1,5 @@
 -- Nothing wraps; each coefficient is the model's. Assumes nothing.
-use Rattle.strips.proofs.Coefficients.{form-eq}
+use Rattle.strips.proofs.Coefficients.{form-eq, as-curved}
 use Rattle.ranges.specs.Sizes.{controlMost}
 use Rattle.integers.specs.Signed.{Made, arg, lit, plus, minus, times, back}
 use Rattle.strips.proofs.power_form.Statement.{statement}
@@ -52,10 +52,10 @@ sub-c3-2 : tie.Need-sub-c3-2
 sub-c3-2 c = let s = c in (minus (plus (minus (b3 s) (times (lit 3 tt) (b2 s) tt) tt) (times (lit 3 tt) (b1 s) tt) tt) (b0 s) tt) .fits
 
 returns : tie.Need-returns
-returns c = form-eq (back (b0 c))
+returns c = as-curved (c .args .b0) (c .args .b1) (c .args .b2) (c .args .b3) (c .pre) (form-eq (back (b0 c))
     (back (times (lit 3 tt) (minus (b1 c) (b0 c) tt) tt))
     (back (times (lit 3 tt) (plus (minus (b0 c) (times (lit 2 tt) (b1 c) tt) tt) (b2 c) tt) tt))
-    (back (minus (plus (minus (b3 c) (times (lit 3 tt) (b2 c) tt) tt) (times (lit 3 tt) (b1 c) tt) tt) (b0 c) tt))
+    (back (minus (plus (minus (b3 c) (times (lit 3 tt) (b2 c) tt) tt) (times (lit 3 tt) (b1 c) tt) tt) (b0 c) tt)))
 
 pub power-form-spec : {M : Type 1} → statement M
 power-form-spec =

@@ -1,0 +1,120 @@
+-- Nothing wraps; both quotients are rounded by `rounded`, and the box counts those that are not whole. Assumes nothing.
+use mathlib.Core.Path.{_≡_, sym, ap, _∙_}
+use Prim.Native.Nat.{ℕ}
+use native.Mathlib.Nat.{le-trans}
+use native.Mathlib.Omega.{arith}
+use lib.IntN.{ℤ, pos, _+ℤ_, _*ℤ_}
+use Rattle.integers.specs.Signed.{Made, arg, held, lit, widen, plus, times, back, called}
+use Rattle.integers.specs.Signed.{read64}
+use Rattle.integers.specs.Whole.{rest, rest-most}
+use Rattle.model.specs.Strips.{centreTop, axisTop, straight}
+use Rattle.ranges.specs.PowerForm.{c0Most, c1Most, nMost}
+use Rattle.nodes.specs.Places.{side-eq}
+use borrow.Author.Needs.{needs}
+use Rattle.strips.proofs.straight_of.Statement.{statement}
+use Rattle.strips.proofs.straight_of.Tie as tie
+
+module _ (s : tie.Start) where
+  a : Made (s .args .a) (s .args .a) c0Most
+  a = arg (s .pre .0) (s .fits .a)
+
+  g : Made (s .args .g) (s .args .g) c1Most
+  g = arg (s .pre .1) (s .fits .g)
+
+  n : Made (pos (s .args .n)) (pos (s .args .n)) nMost
+  n = held (pos (s .args .n)) (s .pre .3) tt
+
+  m : Made (pos (s .args .m)) (pos (s .args .m)) nMost
+  m = held (pos (s .args .m)) (le-trans (s .pre .4) (s .pre .3)) tt
+
+cast-p : tie.Need-cast-p
+cast-p c = search needs
+
+cast-q : tie.Need-cast-q
+cast-q c = search needs
+
+mul-rounded : tie.Need-mul-rounded
+mul-rounded c = (times (a c) (n c) tt) .fits
+
+mul-rounded-2 : tie.Need-mul-rounded-2
+mul-rounded-2 c = (times (g c) (m c) tt) .fits
+
+add-rounded : tie.Need-add-rounded
+add-rounded c = (plus (times (a c) (n c) tt) (times (g c) (m c) tt) tt) .fits
+
+mul-rounded-3 : tie.Need-mul-rounded-3
+mul-rounded-3 c = (times (lit 16 tt) (plus (times (a c) (n c) tt) (times (g c) (m c) tt) tt) tt) .fits
+
+rounded-requires : tie.Need-rounded-requires
+rounded-requires c κs =
+    let t = times (lit 16 tt) (plus (times (a c) (n c) tt) (times (g c) (m c) tt) tt) tt in
+    rw (back t, back (n c)) ((widen 3900000000000000000 t tt) .within, omega (arith, c .pre .3), omega (arith, c .pre .2), tt)
+
+mul-rounded-4 : tie.Need-mul-rounded-4
+mul-rounded-4 c = (times (lit 16 tt) (g (c .before)) tt) .fits
+
+rounded-requires-2 : tie.Need-rounded-requires-2
+rounded-requires-2 c κs =
+    let s = c .before in
+    let t = times (lit 16 tt) (g s) tt in
+    rw (back t, back (n s)) ((widen 3900000000000000000 t tt) .within, omega (arith, s .pre .3), omega (arith, s .pre .2), tt)
+
+slack-requires : tie.Need-slack-requires
+slack-requires c κs = search needs
+
+slack-requires-2 : tie.Need-slack-requires-2
+slack-requires-2 c κs = search needs
+
+-- a call's quotient z / k, and what it adds
+slackly : {r : ℤ} {t : ℕ} (z : ℤ) (k : ℕ) → r ≡ pos t → rest z k ≡ t → Made r (pos (rest z k)) 1
+slackly z k e f = called (e ∙ ap pos (sym f)) (rest-most z k) tt
+
+module _ (c : tie.After-slack2) where
+  abbrev start : tie.Start
+  start = c .before .before .before .before
+
+  abbrev A : ℤ
+  A = centreTop (start .args .a) (start .args .g) (pos (start .args .n)) (pos (start .args .m))
+
+  abbrev B : ℤ
+  B = axisTop (start .args .g)
+
+  of-centre : Made (c .before .slack .result) (pos (rest A (start .args .n))) 1
+  of-centre =
+      let s = start in
+      slackly A (s .args .n) (c .before .slack .ensures) (rw (back (times (lit 16 tt) (plus (times (a s) (n s) tt) (times (g s) (m s) tt) tt) tt), back (n s)) at (c .before .before .before .rounded .ensures .1))
+
+  of-axis : Made (c .slack2 .result) (pos (rest B (start .args .n))) 1
+  of-axis = let s = start in slackly B (s .args .n) (c .slack2 .ensures) (rw (back (times (lit 16 tt) (g s) tt), back (n s)) at (c .before .before .rounded2 .ensures .1))
+
+add-half : tie.Need-add-half
+add-half c = (plus (of-centre c) (of-axis c) tt) .fits
+
+returns : tie.Need-returns
+unfolding straight
+returns c =
+    let b = c .before .before in
+    let s = start b in
+    let first = b .before .before .before .rounded in
+    let second = b .before .before .rounded2 in
+    let e = rw (back (times (lit 16 tt) (plus (times (a s) (n s) tt) (times (g s) (m s) tt) tt) tt), back (n s)) at (first .ensures .0) in
+    let f = rw (back (times (lit 16 tt) (g s) tt), back (n s)) at (second .ensures .0) in
+    side-eq (read64 (first .result .nearest) (c .before .struct-told .given .0 .1) ∙ e) (read64 (second .result .nearest) (c .struct-told2 .given .0 .1) ∙ f) (back (plus (of-centre b) (of-axis b) tt))
+
+pub straight-of-spec : {M : Type 1} → statement M
+straight-of-spec =
+    tie.close
+    (tie.spec
+    cast-p
+    cast-q
+    mul-rounded
+    mul-rounded-2
+    add-rounded
+    mul-rounded-3
+    rounded-requires
+    mul-rounded-4
+    rounded-requires-2
+    slack-requires
+    slack-requires-2
+    add-half
+    returns)
