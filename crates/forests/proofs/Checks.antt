@@ -17,20 +17,20 @@ use Rattle.subtrees.specs.Sizes.{few-trees, some-node}
 use Rattle.forests.specs.declared.Checked.{Checked}
 use Rattle.forests.specs.Told.{Told}
 
--- the count that was found, of the trees of the places l
-module _ (g : ℤ) (l : List ℤ) (n m k : ℕ) (some : 1 ≤ n) (few : n ≤ 64) (e : k ≡ cond (anyLong (trees g (edgesFrom l n 0))) 0 (sizes (trees g (edgesFrom l n 0)))) where
+-- the count that was found, of the trees of the marks ms and the places l
+module _ (g : ℤ) (ms l : List ℤ) (n m k : ℕ) (some : 1 ≤ n) (few : n ≤ 64) (e : k ≡ cond (anyLong (trees g (edgesFrom ms l n 0))) 0 (sizes (trees g (edgesFrom ms l n 0)))) where
   abbrev ts : List Tree
-  ts = trees g (edgesFrom l n 0)
+  ts = trees g (edgesFrom ms l n 0)
 
   pub told-long : (r : Checked) → r .refusal ≡ 5 → k ≡ 0 → Told ts m r
-  told-long r h z = record { refusal-is = h ∙ sym (rw (none (anyLong ts) (sizes ts) (some-node g l n 0 some) (sym e ∙ z))); nodes-are = λ w. absurd (omega (arith, h, w)) }
+  told-long r h z = record { refusal-is = h ∙ sym (rw (none (anyLong ts) (sizes ts) (some-node g ms l n 0 some) (sym e ∙ z))); nodes-are = λ w. absurd (omega (arith, h, w)) }
 
   module _ (h : k ≡ 0 → ⊥) where
     counted : (anyLong ts ≡ false) × (k ≡ sizes ts)
     counted = let s = sorted (anyLong ts) (sizes ts) (λ z. h (e ∙ z)) in (s .0, e ∙ s .1)
 
     pub numbers-fit : Fits w64 (width * k)
-    numbers-fit = record { fits = omega (arith, counted .1, few-trees g l n 0) }
+    numbers-fit = record { fits = omega (arith, counted .1, few-trees g ms l n 0) }
 
     pub told-store : (r : Checked) → r .refusal ≡ 6 → m < width * k → Told ts m r
     told-store r q z = record { refusal-is = q ∙ sym (rw (counted .0, lt-leb (width * sizes ts) m (omega (arith, counted .1)))); nodes-are = λ w. absurd (omega (arith, q, w)) }

@@ -2,3 +2,4 @@
 pub mod NextEdge
 pub mod Whole
 pub mod Checks
+pub mod Controls

@@ -31,32 +31,32 @@ pub count-go : (t : Tree) (us : List Tree) (s k : ℕ) → isLong t ≡ false �
 count-go t us s k h e = let z : s + k + sizes us ≡ s + (size t + sizes us) = omega arith in rw (h, z)
 
 -- ---- what is known of the first tree and the others, in a store of m numbers
-pub record Split (g : ℤ) (l : List ℤ) (n e m : ℕ) : Type 0 where
-  pub is : treesFrom g l n e ≡ tree g (edgeAt l e) ∷ treesFrom g l n (e + 1)
-  pub first : Ready g l e m
-  pub first-few : size (tree g (edgeAt l e)) < 2048
-  pub others : (k : ℕ) → m ≤ width * size (tree g (edgeAt l e)) + k → Ahead g l n (e + 1) k
-  pub room : width * size (tree g (edgeAt l e)) + width * sizes (treesFrom g l n (e + 1)) ≤ m
+pub record Split (g : ℤ) (ms l : List ℤ) (n e m : ℕ) : Type 0 where
+  pub is : treesFrom g ms l n e ≡ tree g (edgeAt ms l e) ∷ treesFrom g ms l n (e + 1)
+  pub first : Ready g ms l e m
+  pub first-few : size (tree g (edgeAt ms l e)) < 2048
+  pub others : (k : ℕ) → m ≤ width * size (tree g (edgeAt ms l e)) + k → Ahead g ms l n (e + 1) k
+  pub room : width * size (tree g (edgeAt ms l e)) + width * sizes (treesFrom g ms l n (e + 1)) ≤ m
 
-pub split : (g : ℤ) (l : List ℤ) (n e m : ℕ) → Ahead g l n e m → (e ≡ n → ⊥) → Split g l n e m
-split g l n e m a k =
-    let t = tree g (edgeAt l e) in
-    let us = treesFrom g l n (e + 1) in
-    let i = more-is g l n e (a .from) k in
+pub split : (g : ℤ) (ms l : List ℤ) (n e m : ℕ) → Ahead g ms l n e m → (e ≡ n → ⊥) → Split g ms l n e m
+split g ms l n e m a k =
+    let t = tree g (edgeAt ms l e) in
+    let us = treesFrom g ms l n (e + 1) in
+    let i = more-is g ms l n e (a .from) k in
     let c = or-false (isLong t) (anyLong us) (sym (ap anyLong i) ∙ a .short) in
     let r : width * size t + width * sizes us ≤ m = omega (arith, ap sizes i, a .fits) in
     record {
       is = i;
       first = record { limits = a .limits; within = omega (arith, a .from, a .few, k); grain-size = a .grain-size; short = c .0; fits = omega (arith, r) };
-      first-few = few-nodes g (edgeAt l e);
+      first-few = few-nodes g (edgeAt ms l e);
       others = λ h b. record { limits = a .limits; from = omega (arith, a .from, k); few = a .few; grain-size = a .grain-size; short = c .1; fits = omega (arith, r) };
       room = r;
     }
 
 -- a job's trees are those from edge 0 on
-pub from-start : (g : ℤ) (l : List ℤ) (n m : ℕ) → Whole g l n m → Ahead g l n 0 m
-from-start g l n m w =
-    let i = from-first g l n in
+pub from-start : (g : ℤ) (ms l : List ℤ) (n m : ℕ) → Whole g ms l n m → Ahead g ms l n 0 m
+from-start g ms l n m w =
+    let i = from-first g ms l n in
     record { limits = w .limits; from = omega arith; few = w .few; grain-size = w .grain-in .grain-size; short = ap anyLong i ∙ w .short; fits = omega (arith, ap sizes i, w .fits) }
 
 -- ---- building

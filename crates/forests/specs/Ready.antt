@@ -1,4 +1,4 @@
--- Edge e of the places l, with grain g: numbers in range, a tree that is not long, and room for it among m numbers. Assumes nothing.
+-- Edge e of the marks ms and the places l, with grain g: numbers in range, a tree that is not long, and room for it among m numbers. Assumes nothing.
 use mathlib.Core.Path.{_≡_}
 use mathlib.Core.Bool.{false}
 use mathlib.Core.List.{List}
@@ -10,9 +10,9 @@ use Rattle.model.specs.Store.{width, size}
 use Rattle.ranges.specs.Sizes.{grainMost}
 use Rattle.ranges.specs.Jobs.{Limits}
 
-pub record Ready (g : ℤ) (l : List ℤ) (e m : ℕ) : Type 0 where
+pub record Ready (g : ℤ) (ms l : List ℤ) (e m : ℕ) : Type 0 where
   pub limits : Limits l
   pub within : e < 64
   pub grain-size : natAbs g ≤ grainMost
-  pub short : isLong (tree g (edgeAt l e)) ≡ false
-  pub fits : width * size (tree g (edgeAt l e)) ≤ m
+  pub short : isLong (tree g (edgeAt ms l e)) ≡ false
+  pub fits : width * size (tree g (edgeAt ms l e)) ≤ m

@@ -35,17 +35,17 @@ passed-fits ts m e = le-of (width * sizes ts) m (passed-all (checksOf ts m) e .1
 
 -- ---- of a legal job, whose grain the code reads back from its bits as g
 module _ (j : Job) (g : ℤ) (e : g ≡ j .grain) where
-  grown : trees g (edgesFrom (j .places) (j .count) 0) ≡ forest j
-  grown = ap (λ t. trees t (edgesFrom (j .places) (j .count) 0)) e ∙ sym (forest-is j)
+  grown : trees g (edgesFrom (j .marks) (j .places) (j .count) 0) ≡ forest j
+  grown = ap (λ t. trees t (edgesFrom (j .marks) (j .places) (j .count) 0)) e ∙ sym (forest-is j)
 
-  pub told-of : (m : ℕ) (r : Checked) → Told (trees g (edgesFrom (j .places) (j .count) 0)) m r → Told (forest j) m r
+  pub told-of : (m : ℕ) (r : Checked) → Told (trees g (edgesFrom (j .marks) (j .places) (j .count) 0)) m r → Told (forest j) m r
   told-of m r = subst (λ ts. Told ts m r) grown
 
   module _ (l : Legal j) where
     pub trees-ready : Limits (j .places) × (1 ≤ j .count) × (j .count ≤ 64) × GrainSized g
     trees-ready = (places-limited l, l .some, l .few, subst GrainSized (sym e) (grain-sized l))
 
-    pub whole-ready : (m : ℕ) → first (checksOf (forest j) m) ≡ 0 → Whole g (j .places) (j .count) m
+    pub whole-ready : (m : ℕ) → first (checksOf (forest j) m) ≡ 0 → Whole g (j .marks) (j .places) (j .count) m
     whole-ready m h =
         let k = subst (λ ts. first (checksOf ts m) ≡ 0) (sym grown) h in
-        record { limits = places-limited l; few = l .few; grain-in = trees-ready .3; short = passed-short (trees g (edgesFrom (j .places) (j .count) 0)) m k; fits = passed-fits (trees g (edgesFrom (j .places) (j .count) 0)) m k }
+        record { limits = places-limited l; few = l .few; grain-in = trees-ready .3; short = passed-short (trees g (edgesFrom (j .marks) (j .places) (j .count) 0)) m k; fits = passed-fits (trees g (edgesFrom (j .marks) (j .places) (j .count) 0)) m k }

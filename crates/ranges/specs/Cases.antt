@@ -76,7 +76,7 @@ coordinate-row : (z : ℤ) → Just (coordinate z) (Strays z)
 unfolding coordinate
 coordinate-row z = between-row (negsuc 999999) (pos 1000000) z
 
-zero-row : (z : ℤ) → Just (isZero z) (z ≡ pos 0 → ⊥)
+pub zero-row : (z : ℤ) → Just (isZero z) (z ≡ pos 0 → ⊥)
 unfolding isZero
 zero-row (pos n) = ((λ e h. eqb-false n 0 e (cc)), (λ h. go (eqb n 0) refl h))
   where

@@ -22,28 +22,28 @@ use Rattle.forests.proofs.build_edge.Reads as build-edge-reads
 use Rattle.forests.proofs.+build_from.{statement}
 use Rattle.forests.proofs.+build_from.Tie.{close}
 
-abbrev μ-build-from : Measures 2 build-from-kinds.ps ℕ
-μ-build-from κs a = a .1 .1 .1 .0 - a .1 .1 .0
+abbrev μ-build-from : Measures 3 build-from-kinds.ps ℕ
+μ-build-from κs a = a .1 .1 .1 .1 .0 - a .1 .1 .1 .0
 
-abbrev build-from-at : ℕ → In 2 build-from-kinds.ps
+abbrev build-from-at : ℕ → In 3 build-from-kinds.ps
 build-from-at t =
-    and 2 build-from-kinds.ps (is 2 build-from-kinds.ps μ-build-from t) build-from.Pre
+    and 3 build-from-kinds.ps (is 3 build-from-kinds.ps μ-build-from t) build-from.Pre
 
-abbrev build-from-below : ℕ → In 2 build-from-kinds.ps
+abbrev build-from-below : ℕ → In 3 build-from-kinds.ps
 build-from-below t =
-    and 2 build-from-kinds.ps (falls 2 build-from-kinds.ps _<_ μ-build-from t) build-from.Pre
+    and 3 build-from-kinds.ps (falls 3 build-from-kinds.ps _<_ μ-build-from t) build-from.Pre
 
 abbrev callees : ℕ → build-from-lts.Claims
 callees t = (build-edge-reads.Asked, build-edge-reads.Learnt, build-from-below t, build-from.Post)
 
 abbrev first-of : (t : ℕ) → build-from-lts.Start (callees t) (build-from-at t) build-from.Post → Tree
-first-of t s = tree (s .args .grain) (edgeAt (s .args .places .now) (s .args .e))
+first-of t s = tree (s .args .grain) (edgeAt (s .args .marks .now) (s .args .places .now) (s .args .e))
 
 abbrev others-of : (t : ℕ) → build-from-lts.Start (callees t) (build-from-at t) build-from.Post → List Tree
-others-of t s = treesFrom (s .args .grain) (s .args .places .now) (s .args .count) (s .args .e + 1)
+others-of t s = treesFrom (s .args .grain) (s .args .marks .now) (s .args .places .now) (s .args .count) (s .args .e + 1)
 
-split-at : (t : ℕ) (c : build-from-lts.Else1 (callees t) (build-from-at t) build-from.Post) → let s = c .before in Split (s .args .grain) (s .args .places .now) (s .args .count) (s .args .e) (length (s .args .s .now))
-split-at t c = let s = c .before in split (s .args .grain) (s .args .places .now) (s .args .count) (s .args .e) (length (s .args .s .now)) (s .pre .1) (c .if1 .left)
+split-at : (t : ℕ) (c : build-from-lts.Else1 (callees t) (build-from-at t) build-from.Post) → let s = c .before in Split (s .args .grain) (s .args .marks .now) (s .args .places .now) (s .args .count) (s .args .e) (length (s .args .s .now))
+split-at t c = let s = c .before in split (s .args .grain) (s .args .marks .now) (s .args .places .now) (s .args .count) (s .args .e) (length (s .args .s .now)) (s .pre .1) (c .if1 .left)
 
 built-is : (t : ℕ) (c : build-from-lts.After-build-edge (callees t) (build-from-at t) build-from.Post) → let s = c .before .before .before in
     (c .build-edge .result ≡ size (first-of t s)) × (c .build-edge .last .0 ≡ flatten (first-of t s) ++ drop (width * size (first-of t s)) (s .args .s .now))
@@ -53,7 +53,7 @@ long-at : (t : ℕ) (c : build-from-lts.After-build-edge (callees t) (build-from
 long-at t c = let s = c .before .before .before in length-built (s .args .s .now) (c .build-edge .last .0) (first-of t s) (built-is t c .1) (omega (arith, split-at t (c .before .before) .room))
 
 build-from-returns : (t : ℕ) → build-from-lts.Need-returns (callees t) (build-from-at t) build-from.Post
-build-from-returns t c = let s = c .before in rw (end-is (s .args .grain) (s .args .places .now) (s .args .count) (s .args .e) (c .if1 .taken))
+build-from-returns t c = let s = c .before in rw (end-is (s .args .grain) (s .args .marks .now) (s .args .places .now) (s .args .count) (s .args .e) (c .if1 .taken))
 
 build-from-build-edge-requires : (t : ℕ) → build-from-lts.Need-build-edge-requires (callees t) (build-from-at t) build-from.Post
 build-from-build-edge-requires t c κs = let q = c .before in rw (toZ-ofZ (q .before .fits .grain)) (split-at t q .first)

@@ -22,28 +22,28 @@ use Rattle.forests.proofs.check_edge.Reads as check-edge-reads
 use Rattle.forests.proofs.+holds_from.{statement}
 use Rattle.forests.proofs.+holds_from.Tie.{close}
 
-abbrev μ-holds-from : Measures 2 holds-from-kinds.ps ℕ
-μ-holds-from κs a = a .1 .1 .1 .0 - a .1 .1 .0
+abbrev μ-holds-from : Measures 3 holds-from-kinds.ps ℕ
+μ-holds-from κs a = a .1 .1 .1 .1 .0 - a .1 .1 .1 .0
 
-abbrev holds-from-at : ℕ → In 2 holds-from-kinds.ps
+abbrev holds-from-at : ℕ → In 3 holds-from-kinds.ps
 holds-from-at t =
-    and 2 holds-from-kinds.ps (is 2 holds-from-kinds.ps μ-holds-from t) holds-from.Pre
+    and 3 holds-from-kinds.ps (is 3 holds-from-kinds.ps μ-holds-from t) holds-from.Pre
 
-abbrev holds-from-below : ℕ → In 2 holds-from-kinds.ps
+abbrev holds-from-below : ℕ → In 3 holds-from-kinds.ps
 holds-from-below t =
-    and 2 holds-from-kinds.ps (falls 2 holds-from-kinds.ps _<_ μ-holds-from t) holds-from.Pre
+    and 3 holds-from-kinds.ps (falls 3 holds-from-kinds.ps _<_ μ-holds-from t) holds-from.Pre
 
 abbrev callees : ℕ → holds-from-lts.Claims
 callees t = (check-edge-reads.Asked, check-edge-reads.Learnt, holds-from-below t, holds-from.Post)
 
 abbrev first-of : (t : ℕ) → holds-from-lts.Start (callees t) (holds-from-at t) holds-from.Post → Tree
-first-of t s = tree (s .args .grain) (edgeAt (s .args .places .now) (s .args .e))
+first-of t s = tree (s .args .grain) (edgeAt (s .args .marks .now) (s .args .places .now) (s .args .e))
 
 abbrev others-of : (t : ℕ) → holds-from-lts.Start (callees t) (holds-from-at t) holds-from.Post → List Tree
-others-of t s = treesFrom (s .args .grain) (s .args .places .now) (s .args .count) (s .args .e + 1)
+others-of t s = treesFrom (s .args .grain) (s .args .marks .now) (s .args .places .now) (s .args .count) (s .args .e + 1)
 
-split-at : (t : ℕ) (c : holds-from-lts.Else1 (callees t) (holds-from-at t) holds-from.Post) → let s = c .before in Split (s .args .grain) (s .args .places .now) (s .args .count) (s .args .e) (length (s .args .s .now))
-split-at t c = let s = c .before in split (s .args .grain) (s .args .places .now) (s .args .count) (s .args .e) (length (s .args .s .now)) (s .pre .1) (c .if1 .left)
+split-at : (t : ℕ) (c : holds-from-lts.Else1 (callees t) (holds-from-at t) holds-from.Post) → let s = c .before in Split (s .args .grain) (s .args .marks .now) (s .args .places .now) (s .args .count) (s .args .e) (length (s .args .s .now))
+split-at t c = let s = c .before in split (s .args .grain) (s .args .marks .now) (s .args .places .now) (s .args .count) (s .args .e) (length (s .args .s .now)) (s .pre .1) (c .if1 .left)
 
 told-at : (t : ℕ) (c : holds-from-lts.After-check-edge (callees t) (holds-from-at t) holds-from.Post) → let s = c .before .before in Told (c .check-edge .result) (size (first-of t s)) (Begins (first-of t s) (s .args .s .now))
 told-at t c = let s = c .before .before in rw (toZ-ofZ (s .fits .grain)) at (c .check-edge .ensures)
@@ -54,7 +54,7 @@ holds-is t c =
     granted (c .before .check-edge .result) (size (first-of t s)) (Begins (first-of t s) (s .args .s .now)) (told-at t (c .before)) (c .if2 .left)
 
 holds-from-returns : (t : ℕ) → holds-from-lts.Need-returns (callees t) (holds-from-at t) holds-from.Post
-holds-from-returns t c = let s = c .before in rw (end-is (s .args .grain) (s .args .places .now) (s .args .count) (s .args .e) (c .if1 .taken))
+holds-from-returns t c = let s = c .before in rw (end-is (s .args .grain) (s .args .marks .now) (s .args .places .now) (s .args .count) (s .args .e) (c .if1 .taken))
 
 holds-from-check-edge-requires : (t : ℕ) → holds-from-lts.Need-check-edge-requires (callees t) (holds-from-at t) holds-from.Post
 holds-from-check-edge-requires t c κs = rw (toZ-ofZ (c .before .fits .grain)) (split-at t c .first)

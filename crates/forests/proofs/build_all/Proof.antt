@@ -11,7 +11,7 @@ cast-build-from c = wide-fits (c .before .args .grain) (c .before .fits .grain)
 build-from-requires : tie.Need-build-from-requires
 build-from-requires c κs =
     let s = c .before in
-    rw (wide-is (s .args .grain) (s .fits .grain)) (from-start (s .args .grain) (s .args .places .now) (s .args .count) _ (s .pre))
+    rw (wide-is (s .args .grain) (s .fits .grain)) (from-start (s .args .grain) (s .args .marks .now) (s .args .places .now) (s .args .count) _ (s .pre))
 
 same-length : tie.Need-same-length
 same-length c = search needs
@@ -19,7 +19,7 @@ same-length c = search needs
 returns : tie.Need-returns
 returns c =
     let s = c .before .before .before in
-    rw (wide-is (s .args .grain) (s .fits .grain), from-first (s .args .grain) (s .args .places .now) (s .args .count)) at (c .before .build-from .ensures)
+    rw (wide-is (s .args .grain) (s .fits .grain), from-first (s .args .grain) (s .args .marks .now) (s .args .places .now) (s .args .count)) at (c .before .build-from .ensures)
 
 pub build-all-spec : {M : Type 1} → statement M
 build-all-spec = tie.close (tie.spec cast-build-from build-from-requires same-length returns)

@@ -20,7 +20,7 @@ returns : tie.Need-returns
 returns c =
     let d = c .before in
     let s = d .before in
-    c .nodes-of .ensures ∙ ap count (whole-is (s .args .grain) (edgeAt (s .args .places .now) (s .args .e)) (stripsOf (d .shape-of .result)) (s .fits .grain) (d .shape-of .ensures .0))
+    c .nodes-of .ensures ∙ ap count (whole-is (s .args .grain) (edgeAt (s .args .marks .now) (s .args .places .now) (s .args .e)) (stripsOf (d .shape-of .result)) (s .fits .grain) (d .shape-of .ensures .0))
 
 pub count-edge-spec : {M : Type 1} → statement M
 count-edge-spec = tie.close (tie.spec shape-of-requires nodes-of-requires returns)

@@ -17,7 +17,7 @@ count-from-requires c κs =
 returns : tie.Need-returns
 returns c =
     let s = c .before in
-    rw (wide-is (s .args .grain) (s .fits .grain), from-first (s .args .grain) (s .args .places .now) (s .args .count), zero-add) at (c .count-from .ensures)
+    rw (wide-is (s .args .grain) (s .fits .grain), from-first (s .args .grain) (s .args .marks .now) (s .args .places .now) (s .args .count), zero-add) at (c .count-from .ensures)
 
 pub count-nodes-spec : {M : Type 1} → statement M
 count-nodes-spec = tie.close (tie.spec cast-count-from count-from-requires returns)

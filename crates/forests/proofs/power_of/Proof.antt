@@ -1,36 +1,16 @@
--- The four control numbers are read from the edge's place, and each is a coordinate. Assumes nothing.
-use Prim.Native.Nat.{ℕ, _+_, _*_}
-use lib.IntN.{ℤ, pos}
+-- The mark says which form is made. Assumes nothing.
+use mathlib.Core.Path.{ap}
+use native.Mathlib.Omega.{arith}
+use lib.Dec.{lit<}
+use lib.IntN.{pos}
 use lib.ListN.{getD}
-use mathlib.Core.List.{List}
-use mathlib.Core.Path.{_≡_}
-use Rattle.integers.specs.Signed.{Made, called, sized, back}
-use Rattle.ranges.specs.Jobs.{Limits}
 use borrow.Author.Needs.{needs}
+use mir.Syntax.{w32}
+use mir.Val.{ofZ}
+use Rattle.integers.specs.Signed.{same32}
+use Rattle.forests.proofs.Controls.{cubic-picked, line-picked}
 use Rattle.forests.proofs.power_of.Statement.{statement}
 use Rattle.forests.proofs.power_of.Tie as tie
-
-read : {l : List ℤ} {r : ℤ} (i : ℕ) → Limits l → r ≡ getD l i (pos 0) → Made r (getD l i (pos 0)) 1000000
-read i h e = called e (h .within i) tt
-
-module _ (c : tie.After-control4) where
-  abbrev s : tie.Start
-  s = c .before .before .before .before
-
-  abbrev at : ℕ
-  at = 8 * s .args .e + s .args .i
-
-  b0 : Made (c .before .before .before .control .result) (getD (s .args .places .now) at (pos 0)) 1000000
-  b0 = read at (s .pre .0) (c .before .before .before .control .ensures)
-
-  b1 : Made (c .before .before .control2 .result) (getD (s .args .places .now) (at + 2) (pos 0)) 1000000
-  b1 = read (at + 2) (s .pre .0) (c .before .before .control2 .ensures)
-
-  b2 : Made (c .before .control3 .result) (getD (s .args .places .now) (at + 4) (pos 0)) 1000000
-  b2 = read (at + 4) (s .pre .0) (c .before .control3 .ensures)
-
-  b3 : Made (c .control4 .result) (getD (s .args .places .now) (at + 6) (pos 0)) 1000000
-  b3 = read (at + 6) (s .pre .0) (c .control4 .ensures)
 
 mul-b : tie.Need-mul-b
 mul-b c = search needs
@@ -38,32 +18,29 @@ mul-b c = search needs
 add-b : tie.Need-add-b
 add-b c = search needs
 
-control-requires : tie.Need-control-requires
-control-requires c κs = search needs
+mul-mark : tie.Need-mul-mark
+mul-mark c = search needs
 
-add-control : tie.Need-add-control
-add-control c = search needs
+element-copy-out-mark : tie.Need-element-copy-out-mark
+element-copy-out-mark c = search needs
 
-control-requires-2 : tie.Need-control-requires-2
-control-requires-2 c κs = search needs
-
-add-control-2 : tie.Need-add-control-2
-add-control-2 c = search needs
-
-control-requires-3 : tie.Need-control-requires-3
-control-requires-3 c κs = search needs
-
-add-control-3 : tie.Need-add-control-3
-add-control-3 c = search needs
-
-control-requires-4 : tie.Need-control-requires-4
-control-requires-4 c κs = search needs
-
-power-form-requires : tie.Need-power-form-requires
-power-form-requires c κs = record { b0-size = sized 1000000 (b0 c) tt; b1-size = sized 1000000 (b1 c) tt; b2-size = sized 1000000 (b2 c) tt; b3-size = sized 1000000 (b3 c) tt }
+cubic-at-requires : tie.Need-cubic-at-requires
+cubic-at-requires c κs = let s = c .before .before in (s .pre .0, omega (arith, s .pre .1, s .pre .2))
 
 returns : tie.Need-returns
-returns c = let d = c .before in rw (back (b0 d), back (b1 d), back (b2 d), back (b3 d)) at (c .power-form .ensures)
+returns c =
+    let t = c .before in
+    let s = t .before .before in
+    rw (cubic-picked (getD (s .args .marks .now) (s .args .e) (pos 0)) (s .args .places .now) _ (same32 (getD (s .args .marks .now) (s .args .e) (pos 0)) (pos 0) (t .before .mark .given) (lit< tt) (t .if1 .taken))) (c .cubic-at .ensures)
+
+line-at-requires : tie.Need-line-at-requires
+line-at-requires c κs = let s = c .before .before in (s .pre .0, omega (arith, s .pre .1, s .pre .2))
+
+returns-2 : tie.Need-returns-2
+returns-2 c =
+    let t = c .before in
+    let s = t .before .before in
+    rw (line-picked (getD (s .args .marks .now) (s .args .e) (pos 0)) (s .args .places .now) _ (λ e. t .if1 .left (ap (ofZ w32) e))) (c .line-at .ensures)
 
 pub power-of-spec : {M : Type 1} → statement M
 power-of-spec =
@@ -71,12 +48,9 @@ power-of-spec =
     (tie.spec
     mul-b
     add-b
-    control-requires
-    add-control
-    control-requires-2
-    add-control-2
-    control-requires-3
-    add-control-3
-    control-requires-4
-    power-form-requires
-    returns)
+    mul-mark
+    element-copy-out-mark
+    cubic-at-requires
+    returns
+    line-at-requires
+    returns-2)
