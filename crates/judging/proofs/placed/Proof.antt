@@ -5,18 +5,19 @@ use native.Mathlib.Omega.{arith}
 use lib.ListN.{drop}
 use borrow.Author.Needs.{needs}
 use Rattle.model.specs.Jobs as law
+use Rattle.judging.specs.Turns.{anywhere, run}
 use Rattle.judging.proofs.Verdicts as verdicts
 use Rattle.judging.proofs.placed.Statement.{statement}
 use Rattle.judging.proofs.placed.Tie as tie
 
 abbrev Inv-loop : tie.InvT-loop
-Inv-loop n edges i₀ i = (law.placed n edges ≡ law.placed (n - i) (drop i edges)) × (i ≤ 512)
+Inv-loop n places i₀ i = (law.placed n places ≡ run anywhere (n - i) i (drop i places)) × (i ≤ 512)
 
 abbrev μ-loop : tie.MeasureT-loop
-μ-loop n edges i₀ i = 512 - i
+μ-loop n places i₀ i = 512 - i
 
 loop-holds : tie.Need-loop-holds Inv-loop μ-loop
-loop-holds c = search (needs, verdicts.at-first)
+loop-holds c = search (needs, verdicts.placed-first)
 
 mul-v : tie.Need-mul-v Inv-loop μ-loop
 mul-v c = omega arith
@@ -28,7 +29,7 @@ place-requires : tie.Need-place-requires Inv-loop μ-loop
 place-requires c κs = tt
 
 returns : tie.Need-returns Inv-loop μ-loop
-returns c = search (needs, verdicts.place-fails)
+returns c = search (needs, verdicts.turn-fails)
 
 add-i : tie.Need-add-i Inv-loop μ-loop
 add-i c = omega arith
@@ -37,7 +38,7 @@ loop-less : tie.Need-loop-less Inv-loop μ-loop
 loop-less c = omega arith
 
 loop-again : tie.Need-loop-again Inv-loop μ-loop
-loop-again c = (search (needs, verdicts.place-holds), omega arith)
+loop-again c = (search (needs, verdicts.turn-holds), omega arith)
 
 returns-2 : tie.Need-returns-2 Inv-loop μ-loop
 returns-2 c = search (needs, verdicts.all-hold)
