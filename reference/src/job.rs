@@ -23,11 +23,11 @@ const EXPONENT_SPREAD: i32 = 8;
 pub struct Job {
     /// How many of the places are edges.
     pub count: usize,
-    /// What each place holds: 0 a cubic, 1 a line, 0 past the count.
-    pub marks: [i32; EDGE_LIMIT],
     /// The places, eight numbers each. A cubic has x0 y0 x1 y1 x2 y2 x3 y3, a
     /// line x and y of its first end, of its second, and four zeros.
     pub places: [i32; EDGE_LIMIT * NUMBERS_AN_EDGE],
+    /// What each place holds: 0 a cubic, 1 a line, 0 past the count.
+    pub marks: [i32; EDGE_LIMIT],
     /// The plate's lower left corner, across.
     pub x: i32,
     /// The plate's lower left corner, upward.
@@ -46,8 +46,8 @@ impl Job {
     /// The job of zeros that stands for a refused sheet.
     pub const ZERO: Job = Job {
         count: 0,
-        marks: [CUBIC_MARK; EDGE_LIMIT],
         places: [0; EDGE_LIMIT * NUMBERS_AN_EDGE],
+        marks: [CUBIC_MARK; EDGE_LIMIT],
         x: 0,
         y: 0,
         n: 0,
