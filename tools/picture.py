@@ -5,6 +5,8 @@ from decimal import Decimal
 from itertools import groupby
 from xml.sax.saxutils import escape
 
+from sheets import is_line
+
 # Light, middle and dark, so that they differ in grey too; blue, yellow and red-brown differ for colour-blind eyes.
 COLOURS = {"C": "#dfe8f1", "D": "#f0b429", "I": "#b5460f"}
 NAMES = {"C": "clear", "D": "doubtful", "I": "inside"}
@@ -101,15 +103,16 @@ def runs(row, letter):
 
 
 def outline_path(sheet):
-    """The edges as cubic commands, in hundredths from the plate's corner: whole numbers, so exact."""
+    """The edges as commands of cubics and lines, in hundredths from the plate's corner: whole numbers, so exact."""
     x, y = sheet.x.value, sheet.y.value
     commands = []
     last = None
     for edge in sheet.edge_values():
-        points = [f"{edge[i] - x} {edge[i + 1] - y}" for i in range(0, 8, 2)]
+        points = [f"{edge[i] - x} {edge[i + 1] - y}" for i in range(0, len(edge), 2)]
         start = "" if points[0] == last else f"M{points[0]}"
-        commands.append(f"{start}C{' '.join(points[1:])}")
-        last = points[3]
+        command = "L" if is_line(edge) else "C"
+        commands.append(f"{start}{command}{' '.join(points[1:])}")
+        last = points[-1]
     return "".join(commands)
 
 

@@ -51,7 +51,7 @@ def form_lines(error):
 def edges_lines(sheet):
     return [
         f"A job has 1 to {sheets.EDGE_LIMIT} edges.",
-        f"edge lines on the sheet: {len(sheet.edges)}",
+        f"edges on the sheet, cubics and lines: {len(sheet.edges)}",
     ]
 
 
@@ -112,8 +112,12 @@ def written_length(sheet):
     head += f"(cell {sheet.m.value})\n(reach {sheet.reach.value})\n"
     if grain != sheets.DEFAULT_GRAIN:
         head += f"(grain {grain})\n"
-    edges = ["(edge ({} {}) ({} {}) ({} {}) ({} {}))\n".format(*edge) for edge in sheet.edge_values()]
-    return len(head) + sum(map(len, edges)) + len(")\n")
+    return len(head) + sum(len(written_edge(edge)) for edge in sheet.edge_values()) + len(")\n")
+
+
+def written_edge(edge):
+    form = "(line ({} {}) ({} {}))\n" if sheets.is_line(edge) else "(edge ({} {}) ({} {}) ({} {}) ({} {}))\n"
+    return form.format(*edge)
 
 
 def library_lines(number, accepted):

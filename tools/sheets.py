@@ -19,6 +19,9 @@ EXPONENTS = (0, 20)
 REACHES = (1, 1_000_000)
 GRAINS = (1, 100_000)
 
+# How an edge begins, and how many points it has then.
+POINTS = {b"(edge (": 4, b"(line (": 2}
+
 WORDS = {1: "form", 2: "edges", 3: "range", 4: "cell", 5: "long", 6: "store", 7: "space", 8: "stranger"}
 
 
@@ -60,7 +63,7 @@ class Sheet:
     m: Number
     reach: Number
     grain: Number
-    edges: tuple  # of eight Numbers each: x0 y0 x1 y1 x2 y2 x3 y3
+    edges: tuple  # of Numbers: a cubic has eight, x0 y0 x1 y1 x2 y2 x3 y3, a line four, x0 y0 x1 y1
 
     def edge_values(self):
         return [[number.value for number in edge] for edge in self.edges]
@@ -198,15 +201,15 @@ def sheet_at(cursor):
     m = line_number(cursor, b"(cell ")
     reach = line_number(cursor, b"(reach ")
     grain = Number(DEFAULT_GRAIN, 0, 0)
-    word = cursor.text(b"(grain ", b"(edge (", b")\n")
+    word = cursor.text(b"(grain ", *POINTS, b")\n")
     if word == b"(grain ":
         grain = cursor.number()
         cursor.text(b")\n")
-        word = cursor.text(b"(edge (", b")\n")
+        word = cursor.text(*POINTS, b")\n")
     edges = []
-    while word == b"(edge (":
-        edges.append(edge_at(cursor))
-        word = cursor.text(b"(edge (", b")\n")
+    while word in POINTS:
+        edges.append(edge_at(cursor, POINTS[word]))
+        word = cursor.text(*POINTS, b")\n")
     cursor.end()
     return Sheet(x, y, n, m, reach, grain, tuple(edges))
 
@@ -219,10 +222,10 @@ def line_number(cursor, word):
     return number
 
 
-def edge_at(cursor):
-    """The rest of an edge line, past its first opening parentheses."""
+def edge_at(cursor, points):
+    """The rest of a cubic's or line's text of so many points, past its first opening parentheses."""
     numbers = []
-    for point in range(4):
+    for point in range(points):
         if point > 0:
             cursor.text(b" (")
         numbers.append(cursor.number())
@@ -281,9 +284,18 @@ def range_faults(sheet):
     ]
     for index, edge in enumerate(sheet.edges):
         for place, number in enumerate(edge):
-            name = f"{'xy'[place % 2]} of control point b{place // 2} of edge {index}"
+            name = f"{'xy'[place % 2]} of {point_name(edge, place // 2)} of edge {index}"
             named.append((number, name, COORDINATES))
     return [fault for fault in named if not fault[2][0] <= fault[0].value <= fault[2][1]]
+
+
+def is_line(edge):
+    """Whether an edge is a line and no cubic."""
+    return len(edge) == 4
+
+
+def point_name(edge, point):
+    return ("the first end", "the second end")[point] if is_line(edge) else f"control point b{point}"
 
 
 def sheet_refusal(sheet):

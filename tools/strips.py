@@ -21,8 +21,23 @@ def nearest(numerator, denominator):
     return (2 * numerator + denominator) // (2 * denominator)
 
 
-def span(controls, depth, k):
-    """Centre, axis and box half of one coordinate of piece k of a depth, in fine units."""
+def span(numbers, depth, k):
+    """Centre, axis and box half of one coordinate of piece k of a depth, in fine units.
+
+    A cubic has four numbers in a coordinate, a line two.
+    """
+    return line_span(numbers, depth, k) if len(numbers) == 2 else cubic_span(numbers, depth, k)
+
+
+def line_span(ends, depth, k):
+    """Middle and half; each quotient that is not whole adds 1 to the box."""
+    a, b = ends
+    n, m = 2 << depth, 2 * k + 1
+    middle, half = 16 * (a * n + (b - a) * m), 16 * (b - a)
+    return nearest(middle, n), nearest(half, n), (middle % n != 0) + (half % n != 0)
+
+
+def cubic_span(controls, depth, k):
     b0, b1, b2, b3 = controls
     c1, c2, c3 = 3 * (b1 - b0), 3 * (b0 - 2 * b1 + b2), b3 - 3 * b2 + 3 * b1 - b0
     n, m = 2 << depth, 2 * k + 1
@@ -42,7 +57,7 @@ def least_short_grain(edge, depth, k):
 
 
 def tree(edge, grain, depth=0, k=0):
-    """The tree of an edge (eight numbers). At depth 10 a piece has no halves even if it is not short."""
+    """The tree of a cubic's eight numbers or a line's four. At depth 10 a piece has no halves even if not short."""
     own_grain = least_short_grain(edge, depth, k)
     if own_grain <= grain or depth == DEEPEST:
         return Piece(own_grain, ())

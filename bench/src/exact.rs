@@ -11,7 +11,7 @@
 //! parameter length h stays within |v|·h/2 + A·h²/8 of its middle.
 
 use crate::sampling::edge_point;
-use clearance_reference::Job;
+use clearance_reference::{Edge, Job};
 
 /// Exact outline points are those at k/4096.
 const STEPS_EXPONENT: u32 = 12;
@@ -49,7 +49,7 @@ pub fn wrong_cells(job: &Job, letters: &[u8]) -> Wrong {
 
 /// An edge, with a bound of its second derivative.
 struct Curve {
-    edge: [i32; 8],
+    edge: Edge,
     bend: f64,
 }
 
@@ -78,28 +78,20 @@ impl Piece {
 }
 
 impl Curve {
-    fn of(edge: &[i32; 8]) -> Curve {
-        let b = edge.map(f64::from);
-        let second = |i: usize| {
-            let [x, y] = [0, 1].map(|c| b[i + c] - 2.0 * b[i + 2 + c] + b[i + 4 + c]);
-            x.hypot(y)
+    fn of(edge: Edge) -> Curve {
+        let bend = match edge {
+            Edge::Cubic(controls) => cubic_bend(controls),
+            Edge::Line(_) => 0.0,
         };
-        Curve {
-            edge: *edge,
-            bend: 6.0 * second(0).max(second(2)),
-        }
+        Curve { edge, bend }
     }
 
     /// The speed at a parameter.
     fn speed(&self, t: f64) -> f64 {
-        let b = self.edge.map(f64::from);
-        let l = 1.0 - t;
-        let weights = [l * l, 2.0 * t * l, t * t];
-        let [x, y] = [0, 1].map(|c| {
-            let steps = (0..3).map(|i| weights[i] * (b[2 * i + 2 + c] - b[2 * i + c]));
-            3.0 * steps.sum::<f64>()
-        });
-        x.hypot(y)
+        match self.edge {
+            Edge::Cubic(controls) => cubic_speed(controls, t),
+            Edge::Line([x0, y0, x1, y1]) => f64::from(x1 - x0).hypot(f64::from(y1 - y0)),
+        }
     }
 
     /// How far the piece may stray from its middle.
@@ -111,12 +103,46 @@ impl Curve {
     /// The point at k/4096, times `SCALE`: whole numbers, below 2^59.
     fn exact_point(&self, k: i64) -> [i64; 2] {
         let l = STEPS - k;
-        let weights = [l * l * l, 3 * k * l * l, 3 * k * k * l, k * k * k];
-        [0, 1].map(|c| {
-            let terms = (0..4).map(|i| weights[i] * i64::from(self.edge[2 * i + c]));
-            terms.sum()
-        })
+        match &self.edge {
+            Edge::Cubic(controls) => {
+                let weights = [l * l * l, 3 * k * l * l, 3 * k * k * l, k * k * k];
+                weighted(&weights, controls)
+            }
+            Edge::Line(ends) => weighted(&[l * STEPS * STEPS, k * STEPS * STEPS], ends),
+        }
     }
+}
+
+/// Points, x and y in turn, with a whole weight each.
+fn weighted(weights: &[i64], points: &[i32]) -> [i64; 2] {
+    [0, 1].map(|c| {
+        let numbers = points[c..].iter().step_by(2);
+        let terms = weights.iter().zip(numbers);
+        terms
+            .map(|(weight, &number)| weight * i64::from(number))
+            .sum()
+    })
+}
+
+/// A bound of a cubic's second derivative.
+fn cubic_bend(controls: [i32; 8]) -> f64 {
+    let b = controls.map(f64::from);
+    let second = |i: usize| {
+        let [x, y] = [0, 1].map(|c| b[i + c] - 2.0 * b[i + 2 + c] + b[i + 4 + c]);
+        x.hypot(y)
+    };
+    6.0 * second(0).max(second(2))
+}
+
+fn cubic_speed(controls: [i32; 8], t: f64) -> f64 {
+    let b = controls.map(f64::from);
+    let l = 1.0 - t;
+    let weights = [l * l, 2.0 * t * l, t * t];
+    let [x, y] = [0, 1].map(|c| {
+        let steps = (0..3).map(|i| weights[i] * (b[2 * i + 2 + c] - b[2 * i + c]));
+        3.0 * steps.sum::<f64>()
+    });
+    x.hypot(y)
 }
 
 /// A closed smallest cell.

@@ -7,7 +7,7 @@ mod tables;
 mod timing;
 mod whole;
 
-use clearance_bench::{same_tricks, sampling};
+use clearance_bench::{same_tricks, sampling, straight};
 use clearance_reference::{listing, read};
 use makers::{Case, Maker};
 use std::fs;
@@ -134,12 +134,32 @@ fn check(case: &Case) -> Result<(), String> {
     Ok(())
 }
 
+/// The cases with lines, and the same with cubics in their place.
+fn with_and_without_lines(cases: &[Case]) -> Result<Vec<[Case; 2]>, String> {
+    cases
+        .iter()
+        .filter(|case| straight::count(&case.job) > 0)
+        .map(|case| {
+            let cubics = straight::as_cubics(&case.job);
+            Ok([
+                Case::of(&case.name, case.job.clone())?,
+                Case::of(&case.name, cubics)?,
+            ])
+        })
+        .collect()
+}
+
 fn run(asked: &Asked) -> Result<(), String> {
     let cases = cases(asked)?;
-    cases.iter().try_for_each(check)?;
+    let pairs = with_and_without_lines(&cases)?;
+    cases
+        .iter()
+        .chain(pairs.as_flattened())
+        .try_for_each(check)?;
     let linked = cfg!(feature = "proved");
     tables::print_ratios(&cases, linked || asked.program.is_some(), asked.budget);
     print!("{NOTES}");
+    tables::print_straight(&pairs, asked.budget);
     tables::print_wrong_cells(&cases);
     tables::print_growth(linked, asked.budget)
 }

@@ -2,7 +2,7 @@
 //! parameter, and distances are measured to that, in floats. There are no
 //! trees and nothing is proved: between two steps the outline may be elsewhere.
 
-use clearance_reference::Job;
+use clearance_reference::{Edge, Job};
 
 /// Steps an edge, unless told otherwise.
 pub const STEPS: usize = 32;
@@ -37,12 +37,25 @@ impl Segment {
 }
 
 /// An edge's point at a parameter.
-pub fn edge_point(edge: &[i32; 8], t: f64) -> [f64; 2] {
+pub fn edge_point(edge: &Edge, t: f64) -> [f64; 2] {
     let l = 1.0 - t;
-    let weights = [l * l * l, 3.0 * t * l * l, 3.0 * t * t * l, t * t * t];
+    match edge {
+        Edge::Cubic(controls) => {
+            let weights = [l * l * l, 3.0 * t * l * l, 3.0 * t * t * l, t * t * t];
+            weighted(&weights, controls)
+        }
+        Edge::Line(ends) => weighted(&[l, t], ends),
+    }
+}
+
+/// Points, x and y in turn, with a weight each.
+fn weighted(weights: &[f64], points: &[i32]) -> [f64; 2] {
     [0, 1].map(|c| {
-        let terms = (0..4).map(|i| weights[i] * f64::from(edge[2 * i + c]));
-        terms.sum()
+        let numbers = points[c..].iter().step_by(2);
+        let terms = weights.iter().zip(numbers);
+        terms
+            .map(|(weight, &number)| weight * f64::from(number))
+            .sum()
     })
 }
 
@@ -50,9 +63,9 @@ pub fn edge_point(edge: &[i32; 8], t: f64) -> [f64; 2] {
 pub fn polyline(job: &Job, steps: usize) -> Vec<Segment> {
     let mut segments = Vec::with_capacity(job.count * steps);
     for edge in job.edges() {
-        let mut start = edge_point(edge, 0.0);
+        let mut start = edge_point(&edge, 0.0);
         for step in 1..=steps {
-            let end = edge_point(edge, step as f64 / steps as f64);
+            let end = edge_point(&edge, step as f64 / steps as f64);
             segments.push(Segment::between(start, end));
             start = end;
         }
@@ -78,7 +91,7 @@ pub fn straying(job: &Job, steps: usize) -> f64 {
         for (step, segment) in segments.iter().enumerate() {
             for part in 1..64 {
                 let t = (step as f64 + f64::from(part) / 64.0) / steps as f64;
-                most = most.max(segment.squared_distance(edge_point(edge, t)));
+                most = most.max(segment.squared_distance(edge_point(&edge, t)));
             }
         }
     }

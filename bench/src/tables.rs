@@ -4,7 +4,7 @@ use crate::growth;
 use crate::makers::{Case, Maker, Row};
 use crate::timing::medians;
 use clearance_bench::exact::wrong_cells;
-use clearance_bench::sampling;
+use clearance_bench::{sampling, straight};
 use std::time::Duration;
 
 /// Median times in microseconds, in the order of `Maker::ALL`.
@@ -88,6 +88,31 @@ fn geometric_mean(all: &[Times], pair: (Maker, Maker)) -> Option<f64> {
         .collect();
     let logs = logs.filter(|logs| !logs.is_empty())?;
     Some((logs.iter().sum::<f64>() / logs.len() as f64).exp())
+}
+
+/// The building with lines beside that with cubics in their place.
+pub fn print_straight(pairs: &[[Case; 2]], budget: Duration) {
+    println!("\nTime of the build in µs with straight sides as lines and as cubics.\n");
+    print!("{:10} {:>6} {:12}", "example", "lines", "maker");
+    print!(" {:>13} {:>14}", "nodes (lines)", "nodes (cubics)");
+    println!(" {:>9} {:>10} {:>14}", "lines", "cubics", "lines / cubics");
+    for pair in pairs {
+        for maker in [Maker::Proved, Maker::Reference] {
+            print_straight_line(pair, maker, budget);
+        }
+    }
+}
+
+fn print_straight_line(pair: &[Case; 2], maker: Maker, budget: Duration) {
+    let calls = pair.iter().filter_map(|case| case.call(maker, Row::Build));
+    let [lines, cubics] = medians(&mut calls.collect::<Vec<_>>(), budget)[..] else {
+        return;
+    };
+    let [with, without] = pair;
+    let count = straight::count(&with.job);
+    print!("{:10} {count:6} {:12}", with.name, maker.name());
+    print!(" {:13} {:14}", with.nodes, without.nodes);
+    println!(" {lines:9.2} {cubics:10.2} {:14.3}", lines / cubics);
 }
 
 /// The letters of the sampling beside those of the map, and its mistakes.

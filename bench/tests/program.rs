@@ -39,7 +39,13 @@ fn the_tables_are_printed() {
     let rows = ["read", "write", "build", "map", "draw", "point", "program"];
     let wanted: Vec<(&str, usize)> = rows.into_iter().zip(wanted).collect();
     assert_eq!(means(&text), wanted);
-    for title in ["wrong clear", "with edges:", "with cells:", "with nodes:"] {
+    for title in [
+        "as lines and as cubics",
+        "wrong clear",
+        "with edges:",
+        "with cells:",
+        "with nodes:",
+    ] {
         assert!(text.contains(title), "{title}");
     }
 }

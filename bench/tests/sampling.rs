@@ -6,7 +6,7 @@ mod common;
 use clearance_bench::exact::{wrong_cells, Wrong};
 use clearance_bench::sampling::{distance, map, polyline, straying, STEPS};
 use clearance_reference::{read, Job};
-use common::{jobs::random_job, random::Xorshift, sample_job};
+use common::{finished, job_with, jobs::random_job, line, random::Xorshift, sample_job};
 use std::fs;
 
 fn example(name: &str) -> Job {
@@ -22,6 +22,29 @@ fn distances_to_a_polyline() {
     assert_eq!(distance(&polyline(&job, 3), [1.5, 2.0]), 2.0);
     assert_eq!(distance(&polyline(&job, 3), [6.0, 4.0]), 5.0);
     assert!(straying(&job, 3) < 1e-9);
+}
+
+#[test]
+fn distances_to_a_line() {
+    let job = job_with(&[line([0, 0, 3, 0])], 1);
+    for steps in [1, 3, 32] {
+        let polyline = polyline(&job, steps);
+        assert_eq!(polyline.len(), steps);
+        assert!((distance(&polyline, [1.5, 2.0]) - 2.0).abs() < 1e-9);
+        assert!((distance(&polyline, [6.0, 4.0]) - 5.0).abs() < 1e-9);
+        assert!(straying(&job, steps) < 1e-9);
+    }
+}
+
+#[test]
+fn a_wrong_letter_beside_a_line_is_found() {
+    let mut job = job_with(&[line([-6, -6, 6, 6])], 1);
+    let letters = finished(&job).unwrap().letters;
+    assert_eq!(wrong_cells(&job, &letters), Wrong::default());
+    // The same letters are wrong beside the other diagonal.
+    job.places[..4].copy_from_slice(&[-6, 6, 6, -6]);
+    let wrong = wrong_cells(&job, &letters);
+    assert!(wrong.clear > 0 && wrong.inside > 0, "{wrong:?}");
 }
 
 #[test]
@@ -47,7 +70,7 @@ fn proper_maps_have_no_wrong_cells() {
     let mut rng = Xorshift::new(11);
     for _ in 0..200 {
         let job = random_job(&mut rng, 4);
-        if let Ok(done) = common::finished(&job) {
+        if let Ok(done) = finished(&job) {
             assert_eq!(wrong_cells(&job, &done.letters), Wrong::default());
         }
     }
@@ -56,7 +79,7 @@ fn proper_maps_have_no_wrong_cells() {
 #[test]
 fn sham_maps_have_wrong_cells() {
     let job = example("washer");
-    let done = common::finished(&job).unwrap();
+    let done = finished(&job).unwrap();
     let count = |letter| done.letters.iter().filter(|&&l| l == letter).count();
     let cells = done.letters.len();
     // Inside cells are no clear ones, clear cells no inside ones, and the

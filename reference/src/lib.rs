@@ -9,6 +9,7 @@
 #![forbid(unsafe_code)]
 #![warn(missing_docs)]
 
+mod edge;
 mod entries;
 mod explore;
 mod job;
@@ -21,10 +22,10 @@ mod sheet;
 pub mod strips;
 pub mod trees;
 
+pub use edge::{Edge, CUBIC_MARK, LINE_MARK, NUMBERS_AN_EDGE, NUMBERS_A_LINE};
 pub use entries::{map, point, read, write};
 pub use job::{
-    judge, judge_with_spot, Job, COORDINATE_LIMIT, EDGE_LIMIT, GRAIN_LIMIT, NUMBERS_AN_EDGE,
-    REACH_LIMIT,
+    judge, judge_with_spot, Job, COORDINATE_LIMIT, EDGE_LIMIT, GRAIN_LIMIT, REACH_LIMIT,
 };
 pub use point::Nearest;
 pub use refusal::Refusal;

@@ -18,7 +18,8 @@ pub fn battery(job: &Job) -> String {
     [spots.concat(), stores.concat()].concat()
 }
 
-/// Points in, on and past the range, and on the outline.
+/// Points in, on and past the range, and on the outline. The last numbers of a
+/// line's place are zeros, so there the fifth is the origin again.
 fn spots(job: &Job) -> [[i32; 2]; 8] {
     [
         [0, 0],

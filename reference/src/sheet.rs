@@ -1,6 +1,7 @@
 //! Reading and writing the job sheet: RULES, "Sheets".
 
-use crate::job::{judge, Job, EDGE_LIMIT, NUMBERS_AN_EDGE};
+use crate::edge::Edge;
+use crate::job::{judge, Job};
 use crate::refusal::Refusal;
 
 /// Most bytes a sheet may have.
@@ -46,23 +47,23 @@ impl Cursor<'_> {
             job.grain = self.number()?;
             self.text(")\n")?;
         }
-        while self.text("(edge ").is_some() {
-            let edge = self.edge()?;
-            // Edges past the places are counted, so that they are refused.
-            if job.count < EDGE_LIMIT {
-                let start = job.count * NUMBERS_AN_EDGE;
-                job.places[start..start + NUMBERS_AN_EDGE].copy_from_slice(&edge);
+        loop {
+            if self.text("(edge ").is_some() {
+                job.add(&Edge::Cubic(self.points()?));
+            } else if self.text("(line ").is_some() {
+                job.add(&Edge::Line(self.points()?));
+            } else {
+                break;
             }
-            job.count += 1;
         }
         self.text(")\n")?;
         self.rest.is_empty().then_some(job)
     }
 
-    /// The four points of an edge, after its name.
-    fn edge(&mut self) -> Option<[i32; NUMBERS_AN_EDGE]> {
-        let mut edge = [0; NUMBERS_AN_EDGE];
-        for (index, point) in edge.chunks_exact_mut(2).enumerate() {
+    /// The points of an edge, two numbers each, after its name.
+    fn points<const NUMBERS: usize>(&mut self) -> Option<[i32; NUMBERS]> {
+        let mut points = [0; NUMBERS];
+        for (index, point) in points.chunks_exact_mut(2).enumerate() {
             self.text(if index == 0 { "(" } else { " (" })?;
             point[0] = self.number()?;
             self.text(" ")?;
@@ -70,7 +71,7 @@ impl Cursor<'_> {
             self.text(")")?;
         }
         self.text(")\n")?;
-        Some(edge)
+        Some(points)
     }
 
     /// Takes exactly this text, or nothing.
@@ -106,9 +107,18 @@ pub fn text(job: &Job) -> Result<String, Refusal> {
     if job.grain != DEFAULT_GRAIN {
         text += &format!("(grain {})\n", job.grain);
     }
-    for [x0, y0, x1, y1, x2, y2, x3, y3] in job.edges() {
-        text += &format!("(edge ({x0} {y0}) ({x1} {y1}) ({x2} {y2}) ({x3} {y3}))\n");
+    for edge in job.edges() {
+        text += &edge_line(&edge);
     }
     text += ")\n";
     Ok(text)
+}
+
+fn edge_line(edge: &Edge) -> String {
+    match edge {
+        Edge::Cubic([x0, y0, x1, y1, x2, y2, x3, y3]) => {
+            format!("(edge ({x0} {y0}) ({x1} {y1}) ({x2} {y2}) ({x3} {y3}))\n")
+        }
+        Edge::Line([x0, y0, x1, y1]) => format!("(line ({x0} {y0}) ({x1} {y1}))\n"),
+    }
 }

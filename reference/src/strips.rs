@@ -1,5 +1,7 @@
 //! The strip of a piece of an edge: RULES, "Strips".
 
+use crate::edge::Edge;
+
 /// Greatest depth a piece may have.
 pub const DEEPEST: u32 = 10;
 
@@ -48,18 +50,22 @@ pub struct Strip {
 }
 
 impl Strip {
-    /// The strip of a piece of the edge with these control numbers, which may
-    /// be any at all.
-    pub fn of(edge: &[i32; 8], piece: Piece) -> Strip {
-        let [x0, y0, x1, y1, x2, y2, x3, y3] = *edge;
-        let forms = [
-            AffineForm::of([x0, x1, x2, x3], piece),
-            AffineForm::of([y0, y1, y2, y3], piece),
-        ];
+    /// The strip of a piece of an edge, whose numbers may be any at all.
+    pub fn of(edge: &Edge, piece: Piece) -> Strip {
+        let sides = match *edge {
+            Edge::Cubic([x0, y0, x1, y1, x2, y2, x3, y3]) => [
+                Side::of_cubic([x0, x1, x2, x3], piece),
+                Side::of_cubic([y0, y1, y2, y3], piece),
+            ],
+            Edge::Line([x0, y0, x1, y1]) => [
+                Side::of_line([x0, x1], piece),
+                Side::of_line([y0, y1], piece),
+            ],
+        };
         Strip {
-            centre: forms.map(|form| form.centre),
-            axis: forms.map(|form| form.axis),
-            half_box: forms.map(|form| form.half_box()),
+            centre: sides.map(|side| side.centre),
+            axis: sides.map(|side| side.axis),
+            half_box: sides.map(|side| side.half_box),
         }
     }
 
@@ -75,38 +81,55 @@ impl Strip {
     }
 }
 
-/// One coordinate of a piece, in fine units. The coefficient `axis` belongs to
-/// the parameter itself, which x and y share; `second` and `third` belong to
-/// the noise symbols that stand for the rests of its square and cube.
+/// One coordinate of a strip, in fine units.
 #[derive(Clone, Copy)]
-struct AffineForm {
+struct Side {
     centre: i64,
     axis: i64,
-    second: i64,
-    third: i64,
+    half_box: i64,
 }
 
-impl AffineForm {
-    fn of(controls: [i32; 4], piece: Piece) -> AffineForm {
+impl Side {
+    /// The coefficient `axis` belongs to the parameter itself, which x and y
+    /// share; `second` and `third` belong to the noise symbols that stand for
+    /// the rests of its square and cube. Both are taken at full swing, and 2
+    /// makes up for four roundings of a half.
+    fn of_cubic(controls: [i32; 4], piece: Piece) -> Side {
         let [a0, a1, a2, a3] = shifted_coefficients(controls, piece);
         let cube = steps(piece).pow(3);
-        AffineForm {
+        let second = nearest(8 * a2, cube);
+        let third = nearest(4 * a3, cube);
+        Side {
             centre: nearest(16 * a0 + 8 * a2, cube),
             axis: nearest(16 * a1 + 12 * a3, cube),
-            second: nearest(8 * a2, cube),
-            third: nearest(4 * a3, cube),
+            half_box: second.abs() + third.abs() + 2,
         }
     }
 
-    /// Both noise symbols at full swing, and 2 for four roundings of a half.
-    fn half_box(self) -> i64 {
-        self.second.abs() + self.third.abs() + 2
+    /// A line's middle and half have no noise. Each quotient that is not whole
+    /// adds 1, more than its rounding takes off.
+    fn of_line(ends: [i32; 2], piece: Piece) -> Side {
+        let [first, second] = ends.map(i128::from);
+        let n = steps(piece);
+        let middle = 16 * (first * n + (second - first) * middle_step(piece));
+        let half = 16 * (second - first);
+        let roundings = [middle, half].map(|numerator| i64::from(numerator % n != 0));
+        Side {
+            centre: nearest(middle, n),
+            axis: nearest(half, n),
+            half_box: roundings.iter().sum(),
+        }
     }
 }
 
 /// The half steps of the parameter at a piece's depth.
 fn steps(piece: Piece) -> i128 {
     1 << (piece.depth + 1)
+}
+
+/// How many of these lie before the middle of a piece.
+fn middle_step(piece: Piece) -> i128 {
+    2 * i128::from(piece.index) + 1
 }
 
 /// The power form about the middle of a piece, all times the cube of the steps.
@@ -117,7 +140,7 @@ fn shifted_coefficients(controls: [i32; 4], piece: Piece) -> [i128; 4] {
     let c2 = 3 * (b0 - 2 * b1 + b2);
     let c3 = b3 - 3 * b2 + 3 * b1 - b0;
     let n = steps(piece);
-    let m = 2 * i128::from(piece.index) + 1;
+    let m = middle_step(piece);
     [
         c0 * n * n * n + c1 * n * n * m + c2 * n * m * m + c3 * m * m * m,
         c1 * n * n + 2 * c2 * n * m + 3 * c3 * m * m,
@@ -128,7 +151,7 @@ fn shifted_coefficients(controls: [i32; 4], piece: Piece) -> [i128; 4] {
 
 /// The nearest whole number to a quotient, the greater one for a half. It is
 /// the floor of the quotient plus a half, and Euclidean division by a positive
-/// number is that floor. From 32-bit controls the result is below 2^40.
+/// number is that floor. From 32-bit numbers the result is below 2^40.
 fn nearest(numerator: i128, denominator: i128) -> i64 {
     (2 * numerator + denominator).div_euclid(2 * denominator) as i64
 }

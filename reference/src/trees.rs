@@ -1,7 +1,8 @@
 //! The tree of strips of an edge, and the numbers of the store: RULES, "Trees"
 //! for the halving and "Store" for the numbers.
 
-use crate::job::{judge, Job, NUMBERS_AN_EDGE};
+use crate::edge::Edge;
+use crate::job::{judge, Job};
 use crate::refusal::Refusal;
 use crate::strips::{Piece, Strip};
 
@@ -45,7 +46,7 @@ impl Tree {
 
     /// The tree over one piece; `Long` as soon as a piece that is not short
     /// has no halves.
-    fn over(edge: &[i32; NUMBERS_AN_EDGE], piece: Piece, grain: i32) -> Result<Tree, Refusal> {
+    fn over(edge: &Edge, piece: Piece, grain: i32) -> Result<Tree, Refusal> {
         let strip = Strip::of(edge, piece);
         if strip.is_short(grain) {
             return Ok(Tree {
@@ -91,7 +92,7 @@ fn store_number(number: i64) -> i32 {
 pub fn grow(job: &Job) -> Result<Vec<Tree>, Refusal> {
     judge(job)?;
     job.edges()
-        .map(|edge| Tree::over(edge, Piece::WHOLE, job.grain))
+        .map(|edge| Tree::over(&edge, Piece::WHOLE, job.grain))
         .collect()
 }
 

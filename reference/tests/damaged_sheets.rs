@@ -16,7 +16,7 @@ const NUMBERS: [&str; 16] = [
 ];
 
 /// Bytes that matter to the form, and some that do not.
-const BYTES: &[u8] = b"0123456789-() \n\r\tjobplatecellreachgrainedge+.\0\xff";
+const BYTES: &[u8] = b"0123456789-() \n\r\tjobplatecellreachgrainedgeline+.\0\xff";
 
 fn damage(rng: &mut Xorshift, sheet: &mut Vec<u8>) {
     let place = rng.below(sheet.len().max(1));
@@ -24,7 +24,7 @@ fn damage(rng: &mut Xorshift, sheet: &mut Vec<u8>) {
         sheet.push(rng.choose(BYTES));
         return;
     }
-    match rng.below(16) {
+    match rng.below(17) {
         0 => sheet[place] ^= 1 << rng.below(8),
         1 => sheet[place] = rng.choose(BYTES),
         2 => drop(sheet.remove(place)),
@@ -32,6 +32,7 @@ fn damage(rng: &mut Xorshift, sheet: &mut Vec<u8>) {
         4 => sheet.truncate(place),
         5 => swap_lines(rng, sheet),
         6..=9 => repeat_line(rng, sheet),
+        10 => swap_names(sheet),
         _ => change_number(rng, sheet),
     }
 }
@@ -57,6 +58,18 @@ fn repeat_line(rng: &mut Xorshift, sheet: &mut Vec<u8>) {
     let times = rng.choose(&[0, 2, 2, 2, 60, 70, 300]);
     lines[place] = lines[place].repeat(times);
     *sheet = lines.concat();
+}
+
+/// Gives the first cubic or line the other's name.
+fn swap_names(sheet: &mut [u8]) {
+    let names = [b"(edge", b"(line"];
+    let at = sheet
+        .windows(5)
+        .position(|part| names.contains(&part.try_into().unwrap()));
+    if let Some(at) = at {
+        let other = names[usize::from(sheet[at + 1] == b'e')];
+        sheet[at..at + 5].copy_from_slice(other);
+    }
 }
 
 fn change_number(rng: &mut Xorshift, sheet: &mut Vec<u8>) {

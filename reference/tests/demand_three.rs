@@ -2,11 +2,11 @@
 
 mod common;
 
-use clearance_reference::{Job, Refusal};
+use clearance_reference::{Edge, Job, Refusal};
 use common::brute_force::{fault, outline_points, sights, Sight};
 use common::jobs::random_job;
 use common::random::Xorshift;
-use common::{edge, finished, job_with};
+use common::{edge, finished, job_with, line};
 
 /// How often each letter stands in a map: C, I, D.
 fn tally(letters: &[u8]) -> [usize; 3] {
@@ -25,11 +25,28 @@ struct Totals {
     banded: usize,
 }
 
-fn check_random_jobs(seed: u64, jobs: usize, spread: i32) -> Totals {
+/// How many edges of a job are lines.
+fn lines(job: &Job) -> usize {
+    job.edges()
+        .filter(|edge| matches!(edge, Edge::Line(_)))
+        .count()
+}
+
+/// The next random job of this kind.
+fn next_job(rng: &mut Xorshift, spread: i32, wanted: fn(&Job) -> bool) -> Job {
+    loop {
+        let job = random_job(rng, spread);
+        if wanted(&job) {
+            return job;
+        }
+    }
+}
+
+fn check_random_jobs(seed: u64, jobs: usize, spread: i32, wanted: fn(&Job) -> bool) -> Totals {
     let mut rng = Xorshift::new(seed);
     let mut totals = Totals::default();
     for _ in 0..jobs {
-        let job = random_job(&mut rng, spread);
+        let job = next_job(&mut rng, spread, wanted);
         match finished(&job) {
             Err(refusal) => assert_eq!(refusal, Refusal::Long),
             Ok(done) => {
@@ -78,12 +95,23 @@ fn check_that_opposites_fail(job: &Job, seen: &[Sight], letters: &[u8]) {
 
 #[test]
 fn random_maps_of_few_cells_meet_demand_three() {
-    check_random_jobs(0x51_7cc1, 2_000, 3).check(1_600, 5_000, 2_000);
+    check_random_jobs(0x51_7cc1, 2_000, 3, |_| true).check(1_600, 5_000, 2_000);
 }
 
 #[test]
 fn random_maps_of_many_cells_meet_demand_three() {
-    check_random_jobs(0xb7_2722, 600, 5).check(480, 15_000, 4_000);
+    check_random_jobs(0xb7_2722, 600, 5, |_| true).check(480, 15_000, 4_000);
+}
+
+#[test]
+fn random_maps_of_lines_meet_demand_three() {
+    check_random_jobs(0x1e_5000, 1_000, 4, |job| lines(job) == job.count).check(800, 5_000, 2_000);
+}
+
+#[test]
+fn random_maps_that_mix_both_kinds_meet_demand_three() {
+    let is_mixed = |job: &Job| (1..job.count).contains(&lines(job));
+    check_random_jobs(0x3d_7a19, 1_000, 4, is_mixed).check(800, 5_000, 2_000);
 }
 
 /// Two far edges on a wide plate.
@@ -120,6 +148,24 @@ fn sham_maps_fail_demand_three() {
     upside_down.reverse();
     upside_down.rotate_left(1);
     assert!(fault(&job, &seen, &upside_down).is_some());
+}
+
+/// A line between the ends of a cubic is another outline: the map of one must
+/// not pass for the other's.
+#[test]
+fn a_line_is_not_the_cubic_between_its_ends() {
+    let wide = |edge: Edge| {
+        let mut job = job_with(&[edge], 4);
+        (job.x, job.y, job.n, job.m, job.reach) = (-512, -512, 10, 5, 60);
+        job
+    };
+    let chord = wide(line([-300, 0, 300, 0]));
+    let arch = wide(edge([-300, -300, 300, 300], [0, 400, 400, 0]));
+    for (job, other) in [(&chord, &arch), (&arch, &chord)] {
+        let seen = sights(job, &outline_points(job));
+        assert_eq!(fault(job, &seen, &finished(job).unwrap().letters), None);
+        assert!(fault(job, &seen, &finished(other).unwrap().letters).is_some());
+    }
 }
 
 /// The band of D is E wide on both sides, so on a wide plate it holds far fewer

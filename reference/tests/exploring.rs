@@ -220,7 +220,9 @@ fn ties_settle_nothing() {
     let mut notes = Notes::default();
     for _ in 0..20_000 {
         let mut job = sample_job();
-        for number in &mut job.places[..8] {
+        job.marks[0] = rng.between(0, 1);
+        let used = if job.marks[0] == 1 { 4 } else { 8 };
+        for number in &mut job.places[..used] {
             *number = rng.between(-9, 9);
         }
         (job.x, job.y) = (rng.between(-20, 20), rng.between(-20, 20));

@@ -4,21 +4,26 @@
 mod common;
 
 use clearance_reference::strips::{Piece, Strip};
-use clearance_reference::{map, point, write, Job, Refusal, COORDINATE_LIMIT};
+use clearance_reference::{map, point, write, Edge, Job, Refusal, COORDINATE_LIMIT};
 use common::finished;
 use common::random::Xorshift;
 
 const LIMIT: i32 = COORDINATE_LIMIT;
 
-/// Every edge with each control at an end of its range, on far plates.
+/// An end of the range for each bit.
+fn ends<const NUMBERS: usize>(signs: u32) -> [i32; NUMBERS] {
+    std::array::from_fn(|bit| if signs >> bit & 1 == 0 { -LIMIT } else { LIMIT })
+}
+
+/// Every cubic and every line with each number at an end of its range, on far
+/// plates.
 #[test]
 fn legal_extremes() {
-    for signs in 0..256 {
+    let cubics = (0..256).map(|signs| (signs, Edge::Cubic(ends(signs))));
+    let lines = (0..16).map(|signs| (signs, Edge::Line(ends(signs))));
+    for (signs, edge) in cubics.chain(lines) {
         let mut job = Job::ZERO;
-        job.count = 1;
-        for (bit, number) in job.places[..8].iter_mut().enumerate() {
-            *number = if signs >> bit & 1 == 0 { -LIMIT } else { LIMIT };
-        }
+        job.add(&edge);
         job.x = if signs & 1 == 0 { LIMIT } else { -LIMIT };
         job.y = if signs & 4 == 0 { LIMIT } else { -LIMIT };
         (job.n, job.m) = (20, 17);
@@ -55,7 +60,7 @@ fn wild_jobs_get_a_result_or_a_refusal() {
         let mut job = common::sample_job();
         for _ in 0..rng.below(4) {
             let value = rng.choose(&WILD);
-            match rng.below(8) {
+            match rng.below(10) {
                 0 => job.count = rng.choose(&COUNTS),
                 1 => job.places[rng.below(512)] = value,
                 2 => job.places[rng.below(8)] = value,
@@ -63,6 +68,8 @@ fn wild_jobs_get_a_result_or_a_refusal() {
                 4 => job.n = value,
                 5 => job.m = value,
                 6 => job.reach = value,
+                7 => job.marks[rng.below(64)] = value,
+                8 => job.marks[0] = value,
                 _ => job.grain = value,
             }
         }
@@ -78,14 +85,17 @@ fn wild_jobs_get_a_result_or_a_refusal() {
 }
 
 #[test]
-fn strips_of_any_controls() {
+fn strips_of_any_numbers() {
     let mut rng = Xorshift::new(0x1656_67b1);
     for _ in 0..2_000 {
-        let edge = [(); 8].map(|()| rng.choose(&[i32::MIN, -1, 0, 1, i32::MAX]));
+        let numbers = [(); 8].map(|()| rng.choose(&[i32::MIN, -1, 0, 1, i32::MAX]));
         let mut piece = Piece::WHOLE;
         while let Some(halves) = piece.halves() {
-            let strip = Strip::of(&edge, piece);
+            let strip = Strip::of(&Edge::Cubic(numbers), piece);
             assert!(strip.half_box.iter().all(|&half| half >= 2));
+            let [x0, y0, x1, y1, ..] = numbers;
+            let straight = Strip::of(&Edge::Line([x0, y0, x1, y1]), piece);
+            assert!(straight.half_box.iter().all(|half| [0, 2].contains(half)));
             for grain in [i32::MIN, 0, i32::MAX] {
                 assert!(grain > 0 || !strip.is_short(grain));
             }

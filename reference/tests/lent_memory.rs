@@ -5,7 +5,7 @@ mod common;
 use clearance_reference::{map, write, Job};
 use common::jobs::random_job;
 use common::random::Xorshift;
-use common::{finished, job_with, long_edge, sample_job};
+use common::{finished, job_with, long_edge, point_edge, sample_job};
 
 /// Lends memory full of marks and gives it back with what was written.
 fn map_over_marks(job: &Job, numbers: usize, bytes: usize) -> (bool, Vec<i32>, Vec<u8>) {
@@ -43,8 +43,8 @@ fn a_refused_map_changes_nothing() {
         ..sample.clone()
     };
     // Long only at its last edge, after others that could have been written.
-    let long = job_with(&[[0; 8], [5; 8], long_edge()], 488);
-    let deep = job_with(&[[0; 8], long_edge()], 489);
+    let long = job_with(&[point_edge(0), point_edge(5), long_edge()], 488);
+    let deep = job_with(&[point_edge(0), long_edge()], 489);
     for (job, numbers, bytes) in [
         (&no_edges, 100, 100),
         (&bad_reach, 100, 100),

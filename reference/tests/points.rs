@@ -7,7 +7,7 @@ use clearance_reference::{point, Job, Nearest, Refusal};
 use common::brute_force::{edge_points, outline_points, scaled_square, squared_distance};
 use common::jobs::random_job;
 use common::random::Xorshift;
-use common::{edge, finished, job_with};
+use common::{edge, finished, job_with, point_edge};
 
 /// Squared distances in fine units, times the scale of outline points squared.
 fn least_distance(points: &[[i64; 2]], spot: [i32; 2]) -> i128 {
@@ -32,7 +32,7 @@ fn the_bounds_hold() {
             ]
             .map(|number| number.clamp(-1_000_000, 1_000_000));
             let nearest = point(&job, spot[0], spot[1], &done.store).unwrap();
-            let named = edge_points(job.edges().nth(nearest.edge).unwrap());
+            let named = edge_points(&job.edges().nth(nearest.edge).unwrap());
             let least = least_distance(&outline, spot);
             assert!(scaled_square(i128::from(nearest.lo)) <= least);
             let on_named = least_distance(&named, spot);
@@ -72,7 +72,7 @@ fn the_bounds_are_those_of_the_leaves() {
         );
         // The edge is the first whose own leaves come to the same hi.
         let own = |index: usize| {
-            let alone = job_with(&[*job.edges().nth(index).unwrap()], job.grain);
+            let alone = job_with(&[job.edges().nth(index).unwrap()], job.grain);
             let store = finished(&alone).unwrap().store;
             bounds_from_store(&store, spot).1
         };
@@ -132,8 +132,8 @@ fn another_job_with_the_same_trees_is_no_stranger() {
 
 #[test]
 fn equal_edges_name_the_first() {
-    let far = [50; 8];
-    let near = [3; 8];
+    let far = point_edge(50);
+    let near = point_edge(3);
     let job = job_with(&[far, near, near, far], 1);
     let store = finished(&job).unwrap().store;
     let wanted = Nearest {

@@ -4,7 +4,7 @@ mod common;
 
 use clearance_reference::Refusal::{Cell, Edges, Form, Long, Range, Space, Store, Stranger};
 use clearance_reference::{judge, map, point, read, write, Job, Refusal};
-use common::{finished, job_with, long_edge, sample_job, SAMPLE_SHEET};
+use common::{finished, job_with, long_edge, point_edge, sample_job, SAMPLE_SHEET};
 
 const EDGE_LINE: &str = "(edge (0 0) (0 0) (0 0) (0 0))\n";
 
@@ -193,7 +193,7 @@ fn ranges_of_single_numbers() {
 /// for the two exponents, lies what row 4 refuses.
 fn check_range(field: fn(&mut Job) -> &mut i32, first: i32, last: i32) {
     let at = |value: i32| {
-        let mut job = job_with(&[[0; 8]], 100_000);
+        let mut job = job_with(&[point_edge(0)], 100_000);
         *field(&mut job) = value;
         job
     };
@@ -260,7 +260,7 @@ fn the_exponents_of_a_job() {
         check_job(&sample_with(|job| (job.n, job.m) = (n, m)), Cell);
         let late = sample_with(|job| {
             (job.n, job.m) = (n, m);
-            job.places[..8].copy_from_slice(&long_edge());
+            job.places[..8].copy_from_slice(&long_edge().place());
         });
         check_job(&late, Cell);
     }
@@ -293,7 +293,7 @@ fn the_spot_of_a_point() {
 
 #[test]
 fn long_before_store_before_space() {
-    let long = job_with(&[[0; 8], long_edge()], 488);
+    let long = job_with(&[point_edge(0), long_edge()], 488);
     assert_eq!(judge(&long), Ok(()));
     assert!(write(&long, &mut [0; 200]).is_ok());
     assert_eq!(map(&long, &mut [], &mut []), Err(Long));

@@ -2,7 +2,7 @@
 
 mod common;
 
-use clearance_reference::{read, write, Job, COORDINATE_LIMIT, EDGE_LIMIT};
+use clearance_reference::{read, write, Edge, Job, COORDINATE_LIMIT, EDGE_LIMIT};
 use common::jobs::random_job;
 use common::random::Xorshift;
 
@@ -23,10 +23,15 @@ fn check(job: &Job) {
 /// A legal job of any numbers at all, up to the full count of edges.
 fn wild_job(rng: &mut Xorshift) -> Job {
     let mut job = Job::ZERO;
-    job.count = 1 + rng.below(EDGE_LIMIT);
     let limit = rng.choose(&[1, 9, 10, 999, COORDINATE_LIMIT]);
-    for number in &mut job.places[..8 * job.count] {
-        *number = rng.between(-limit, limit);
+    let lines_in_four = rng.below(5);
+    for _ in 0..1 + rng.below(EDGE_LIMIT) {
+        let edge = if rng.below(4) < lines_in_four {
+            Edge::Line([(); 4].map(|()| rng.between(-limit, limit)))
+        } else {
+            Edge::Cubic([(); 8].map(|()| rng.between(-limit, limit)))
+        };
+        job.add(&edge);
     }
     job.x = rng.between(-limit, limit);
     job.y = rng.between(-limit, limit);
@@ -50,6 +55,7 @@ fn legal_jobs_come_back() {
 fn the_longest_sheet_comes_back() {
     let job = Job {
         count: EDGE_LIMIT,
+        marks: [0; EDGE_LIMIT],
         places: [-COORDINATE_LIMIT; 512],
         x: -COORDINATE_LIMIT,
         y: -COORDINATE_LIMIT,
@@ -74,6 +80,7 @@ fn a_grain_of_ten_is_left_out() {
     }
     job.grain = 10;
     let plain = String::from_utf8(written(&job)).unwrap();
-    let named = plain.replacen("(edge", "(grain 10)\n(edge", 1);
+    let reach = format!("(reach {})\n", job.reach);
+    let named = plain.replacen(&reach, &(reach.clone() + "(grain 10)\n"), 1);
     assert_eq!(read(named.as_bytes()), Ok(job));
 }

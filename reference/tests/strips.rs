@@ -1,9 +1,10 @@
-//! Strips and stores against the Bernstein form, and the shape of the store.
+//! Strips and stores against the points of the outline, and the shape of the store.
 
 mod common;
 
 use clearance_reference::strips::{Piece, Strip, DEEPEST};
 use clearance_reference::trees::{grow, store_numbers, Tree, NUMBERS_A_NODE, STORE_LIMIT};
+use clearance_reference::Edge;
 use common::brute_force::edge_point;
 use common::jobs::random_job;
 use common::random::Xorshift;
@@ -12,7 +13,7 @@ use common::{finished, job_with, long_edge};
 /// The affine form must hold the outline at every parameter, with the same
 /// parameter in x and y. At k/1024 of the edge all is whole once the distance
 /// from the piece's middle is taken times the piece's half steps.
-fn check_enclosure(edge: &[i32; 8], piece: Piece, strip: &Strip) {
+fn check_enclosure(edge: &Edge, piece: Piece, strip: &Strip) {
     let half_steps = 1_i64 << (piece.depth() + 1);
     let width = 1_024 >> piece.depth();
     let first = i64::from(piece.index()) * width;
@@ -37,7 +38,7 @@ fn check_enclosure(edge: &[i32; 8], piece: Piece, strip: &Strip) {
 
 /// Walks a tree with its pieces; every strip must be the piece's own, halved
 /// exactly where it is not short.
-fn check_tree(edge: &[i32; 8], piece: Piece, tree: &Tree, grain: i32) {
+fn check_tree(edge: &Edge, piece: Piece, tree: &Tree, grain: i32) {
     let strip = Strip::of(edge, piece);
     assert_eq!(*tree.strip(), strip);
     check_enclosure(edge, piece, &strip);
@@ -59,7 +60,7 @@ fn strips_hold_the_outline() {
     for _ in 0..300 {
         let job = random_job(&mut rng, 3);
         for (edge, tree) in job.edges().zip(grow(&job).unwrap_or_default()) {
-            check_tree(edge, Piece::WHOLE, &tree, job.grain);
+            check_tree(&edge, Piece::WHOLE, &tree, job.grain);
         }
     }
 }

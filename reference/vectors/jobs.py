@@ -11,13 +11,16 @@ cases = {}
 
 
 def case(name, x, y, n, m, reach, grain, edges):
+    """Edges of eight numbers are cubics, those of four lines."""
     lines = ["(job", f"(plate {x} {y} {n})", f"(cell {m})", f"(reach {reach})", f"(grain {grain})"]
     for e in edges:
-        lines.append("(edge " + " ".join(f"({a} {b})" for a, b in zip(e[::2], e[1::2])) + ")")
+        word = {8: "edge", 4: "line"}[len(e)]
+        lines.append(f"({word} " + " ".join(f"({a} {b})" for a, b in zip(e[::2], e[1::2])) + ")")
     cases[name] = "".join(line + "\n" for line in lines + [")"])
 
 
 def line(x0, y0, x1, y1):
+    """A cubic that runs straight from end to end."""
     return [x0, y0, (2 * x0 + x1) // 3, (2 * y0 + y1) // 3, (x0 + 2 * x1) // 3, (y0 + 2 * y1) // 3, x1, y1]
 
 
@@ -75,6 +78,18 @@ def random_jobs():
              chance.randint(1, span), max(1, span // chance.choice([3, 10, 25])), edges)
 
 
+def lines():
+    case("straight_point", -8, -8, 4, 1, 4, 1, [[0, 0, 0, 0]])
+    case("straight_slanting", -8, -8, 4, 1, 4, 1, [[-6, -6, 6, 6]])
+    case("straight_upright", -40, -30, 7, 2, 9, 3, [[0, -20, 0, 80]])
+    case("straight_rounded", -30, -30, 6, 1, 9, 1, [[0, 0, 17, -17]])
+    case("straight_then_cubic", -8, -8, 4, 1, 2, 1, [[-8, 0, 0, 0], [0, 0, 4, 0, 4, 4, 4, 8]])
+    case("straight_and_cubics", -50, -30, 7, 2, 11, 2,
+         [[-40, 60, -20, 60, 0, 40, 0, 20], [0, 20, 53, -7], [53, -7, 53, 90], [60, 5, 90, 54, -30, 54, 30, 85],
+          [-40, 0, -9, 1]])
+    case("straight_long", -8, -8, 4, 1, 4, 1, [[-1000000, 0, 1000000, 0]])
+
+
 def store(crate, names):
     data = TOP / "crates" / crate / "data"
     data.mkdir(parents=True, exist_ok=True)
@@ -86,11 +101,13 @@ def store(crate, names):
 
 
 def main():
-    for group in (shapes, plates, extremes, refused, random_jobs):
+    for group in (shapes, plates, extremes, refused, random_jobs, lines):
         group()
     small = list(cases)
     straight = [0, 0, 333333, 0, 666666, 0, 999999, 0]
     case("refused_6", 0, -8, 4, 2, 4, 489, [straight, straight])
+    case("straight_longest_977", 0, -8, 4, 2, 4, 977, [[-1000000, 0, 1000000, 0]])
+    case("straight_longest_976", 0, -8, 4, 2, 4, 976, [[-1000000, 0, 1000000, 0]])
     for path in sorted((TOP / "examples").glob("*.sheet")):
         cases["example_" + path.stem] = path.read_text()
     store("map_cases", list(cases))

@@ -11,6 +11,7 @@ CELL = "(cell 1)\n"
 REACH = "(reach 4)\n"
 GRAIN = "(grain 1)\n"
 EDGE = "(edge (0 0) (0 0) (0 0) (0 0))\n"
+LINE = "(line (0 0) (0 0))\n"
 END = ")\n"
 SAMPLE = JOB + PLATE + CELL + REACH + GRAIN + EDGE + END
 
@@ -26,9 +27,16 @@ def sheet(plate=PLATE, cell=CELL, reach=REACH, grain=GRAIN, edges=EDGE):
     return JOB + plate + cell + reach + grain + edges + END
 
 
+def points(numbers):
+    return " ".join(f"({x} {y})" for x, y in zip(numbers[::2], numbers[1::2]))
+
+
 def edge(*numbers):
-    pairs = zip(numbers[::2], numbers[1::2])
-    return "(edge " + " ".join(f"({x} {y})" for x, y in pairs) + ")\n"
+    return f"(edge {points(numbers)})\n"
+
+
+def line(*numbers):
+    return f"(line {points(numbers)})\n"
 
 
 def accepted():
@@ -99,7 +107,7 @@ def broken_lines():
     case("after_end_a_sheet", SAMPLE + SAMPLE)
     case("before_job_a_space", " " + SAMPLE)
     case("empty_line", SAMPLE.replace(CELL, "\n" + CELL))
-    case("unknown_line", SAMPLE.replace(EDGE, "(line (0 0) (1 1))\n" + EDGE))
+    case("unknown_line", SAMPLE.replace(EDGE, "(arc (0 0) (1 1))\n" + EDGE))
     case("upper_case", SAMPLE.replace("(cell", "(CELL"))
 
 
@@ -165,8 +173,28 @@ def cells():
     case("cell_and_range", sheet(plate="(plate 0 0 3)\n", cell="(cell 4)\n", reach="(reach 0)\n"))
 
 
+def straight():
+    case("straight_1", sheet(edges=line(0, 0, 12, -7)))
+    case("straight_point", sheet(edges=LINE))
+    case("straight_64", sheet(edges="".join(line(*range(4 * e - 99, 4 * e - 95)) for e in range(64))))
+    longest = line(-1000000, 5, 1000000, 6)
+    case("straight_and_cubics", sheet(edges=line(1, 2, 3, 4) + edge(*range(8)) + longest * 2 + EDGE))
+    case("straight_32_and_32_cubics", sheet(grain="", edges=(LINE + edge(1, 2, 3, 4, 5, 6, 7, 8)) * 32))
+    case("straight_65", sheet(edges=LINE * 65))
+    case("straight_32_after_33_cubics", sheet(edges=EDGE * 33 + LINE * 32))
+    # So many lines fit 8,192 bytes, and no more.
+    case("straight_428", sheet(edges=LINE * 428))
+    case("straight_429", sheet(edges=LINE * 429))
+    case("straight_of_one_end", sheet(edges="(line (0 0))\n"))
+    case("straight_of_three_ends", sheet(edges="(line (0 0) (0 0) (0 0))\n"))
+    case("straight_space_doubled", sheet(edges="(line (0 0)  (0 0))\n"))
+    case("straight_upper_case", sheet(edges="(Line (0 0) (0 0))\n"))
+    case("straight_minus_zero", sheet(edges="(line (0 0) (-0 0))\n"))
+    case("straight_plus_1000001", sheet(edges=EDGE + line(0, 0, 0, 1000001)))
+
+
 def main():
-    for group in (accepted, counts, sizes, broken_lines, broken_spaces, broken_numbers, ranges, cells):
+    for group in (accepted, counts, sizes, broken_lines, broken_spaces, broken_numbers, ranges, cells, straight):
         group()
     data = CRATE / "data"
     data.mkdir(parents=True, exist_ok=True)

@@ -30,6 +30,7 @@ MAP = b"""(map 8
 """
 
 EDGE = b"(edge (0 0) (0 0) (0 0) (0 0))\n"
+LINE = b"(line (0 0) (0 0))\n"
 
 
 def striped_map(side):

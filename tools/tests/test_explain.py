@@ -5,7 +5,7 @@ import unittest
 import reasons
 import sheets
 import strips
-from tests.samples import EDGE, EXAMPLES, SHEET, Folder, run
+from tests.samples import EDGE, EXAMPLES, LINE, SHEET, Folder, run
 
 LONG_EDGE = b"(edge (0 0) (333333 0) (666666 0) (999999 0))\n"
 # A straight edge with as many nodes as a tree may have.
@@ -25,6 +25,16 @@ class Strips(unittest.TestCase):
         self.assertEqual(strips.span((0, 0, 0, 32), 0, 0), (160, 240, 114))
         self.assertEqual(strips.span((0, 0, 0, 1), 0, 0), (5, 8, 6))
         self.assertEqual(strips.span((0, 0, 0, -1), 0, 0), (-5, -7, 5))
+
+    def test_lines(self):
+        self.assertEqual([strips.span(ends, 0, 0) for ends in ((0, 12), (0, -7))], [(96, 96, 0), (-56, -56, 0)])
+        self.assertEqual([strips.span(ends, 1, 1) for ends in ((0, 12), (0, -7))], [(144, 48, 0), (-84, -28, 0)])
+        self.assertEqual([strips.span(ends, 4, 0) for ends in ((0, 17), (0, -17))], [(9, 9, 2), (-8, -8, 2)])
+        self.assertEqual(strips.node_count(strips.tree((0, 0, 17, -17), 1), 1), 31)
+        longest = (-1_000_000, 0, 1_000_000, 0)
+        self.assertEqual(strips.least_grain(strips.tree(longest, 1)), 977)
+        self.assertEqual(strips.node_count(strips.tree(longest, 977), 977), 2047)
+        self.assertEqual(strips.least_grain(strips.tree((0, 0, 999_999, 0), 488)), 489)
 
     def test_nodes(self):
         edge = (0, 0, 0, 4, 4, 8, 12, 12)
@@ -50,6 +60,7 @@ class Explanations(unittest.TestCase):
     def test_edges(self):
         self.assertIn(": 0", self.said(2, with_edges(b"")))
         self.assertIn(": 65", self.said(2, with_edges(EDGE * 65)))
+        self.assertIn(": 65", self.said(2, with_edges(EDGE * 33 + LINE * 32)))
         # The count comes before the ranges.
         self.said(2, with_edges(EDGE * 65, b"0"))
 
@@ -62,6 +73,12 @@ class Explanations(unittest.TestCase):
         self.assertIn("line 6, column 16: y of control point b1 of edge 0 is 1000001", lines[2])
         self.assertIn("x of control point b3 of edge 0 is -9999999", lines[3])
 
+    def test_range_of_a_line(self):
+        lines = self.said(3, with_edges(EDGE + b"(line (1000001 0) (0 -1000001))\n")).splitlines()[2:]
+        allowed = "allowed -1000000 to 1000000"
+        self.assertEqual(lines[0], f"line 7, column 8: x of the first end of edge 1 is 1000001, {allowed}")
+        self.assertEqual(lines[1], f"line 7, column 22: y of the second end of edge 1 is -1000001, {allowed}")
+
     def test_cell(self):
         text = self.said(4, SHEET.replace(b"(cell 1)", b"(cell 5)"))
         self.assertIn("N is 4", text)
@@ -73,6 +90,12 @@ class Explanations(unittest.TestCase):
         self.assertIn("line 7: edge 1 is long, the smallest grain for it is 489", text)
         self.assertNotIn("edge 0", text)
         self.assertFalse(reasons.explanation(5, with_edges(LONG_EDGE, b"489"))[0])
+
+    def test_long_line(self):
+        longest = b"(line (-1000000 0) (1000000 0))\n"
+        text = self.said(5, with_edges(LINE + longest, b"976"))
+        self.assertIn("line 7: edge 1 is long, the smallest grain for it is 977", text)
+        self.assertEqual(reasons.reason(with_edges(LINE + longest, b"977")).number, 0)
 
     def test_store(self):
         text = self.said(6, with_edges(FULL_EDGE * 2, b"5"))
@@ -96,7 +119,8 @@ class Explanations(unittest.TestCase):
         self.assertFalse(reasons.explanation(7, with_edges(b""))[0])
 
     def test_the_length_that_is_written(self):
-        for data in [SHEET, SHEET.replace(b"(grain 1)\n", b"")] + [path.read_bytes() for path in EXAMPLES]:
+        mixed = with_edges(LINE + EDGE + b"(line (-1 22) (333 -4444))\n")
+        for data in [SHEET, mixed, SHEET.replace(b"(grain 1)\n", b"")] + [path.read_bytes() for path in EXAMPLES]:
             self.assertEqual(reasons.written_length(sheets.read_sheet(data)), len(data))
 
     def test_examples_are_accepted(self):

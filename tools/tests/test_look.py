@@ -60,7 +60,9 @@ class Pictures(unittest.TestCase):
             side = sheet.cells_a_side()
             root = drawn(data, striped_map(side))
             self.assertEqual(len(covered(root)), side * side)
-            self.assertEqual(by_id(root, "outline").get("d").count("C"), len(sheet.edges))
+            path = by_id(root, "outline").get("d")
+            lines = sum(map(sheets.is_line, sheet.edges))
+            self.assertEqual((path.count("C"), path.count("L")), (len(sheet.edges) - lines, lines))
             self.assertEqual(by_id(root, "grid") is not None, 1 < side <= 64)
 
     def test_the_outline_is_exact(self):
@@ -68,6 +70,11 @@ class Pictures(unittest.TestCase):
         root = drawn(data, MAP)
         self.assertEqual(by_id(root, "outline").get("d"), "M9 6C11 12 3 14 15 16")
         self.assertRegex(root.find(f".//{SVG}g[@clip-path]/{SVG}g").get("transform"), r"scale\(\S+ -\S+\)")
+
+    def test_lines_are_drawn_straight(self):
+        edges = b"(line (1 -2) (3 4))\n(edge (3 4) (0 0) (0 0) (5 6))\n(line (5 6) (1 -2))\n(line (0 0) (0 0))\n"
+        root = drawn(SHEET.replace(b"(edge (0 0) (0 0) (0 0) (0 0))\n", edges), MAP)
+        self.assertEqual(by_id(root, "outline").get("d"), "M9 6L11 12C8 8 8 8 13 14L9 6M8 8L8 8")
 
     def test_grid_on_demand(self):
         data = SHEET.replace(b"(plate -8 -8 4)", b"(plate -8 -8 8)")

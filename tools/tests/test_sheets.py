@@ -3,7 +3,7 @@
 import unittest
 
 import sheets
-from tests.samples import EDGE, EXAMPLES, MAP, SHEET, striped_map
+from tests.samples import EDGE, EXAMPLES, LINE, MAP, SHEET, striped_map
 
 
 def broken_at(data, read=sheets.read_sheet):
@@ -63,6 +63,14 @@ BREAKS = [
     (EDGE + b")\n", EDGE + b")\n ", (8, 1)),
     (EDGE + b")\n", EDGE + b")\n)\n", (8, 1)),
     (EDGE + b")\n", EDGE + b"\x00)\n", (7, 1)),
+    (EDGE, b"(lane (0 0) (0 0))\n", (6, 3)),
+    (EDGE, b"(Line (0 0) (0 0))\n", (6, 2)),
+    (EDGE, b"(line (0 0))\n", (6, 12)),
+    (EDGE, b"(line (0 0)  (0 0))\n", (6, 13)),
+    (EDGE, b"(line (0 0) (0 0) (0 0))\n", (6, 18)),
+    (EDGE, b"(line (0 0) (-0 0))\n", (6, 15)),
+    (EDGE, b"(edge (0 0) (0 0))\n", (6, 18)),
+    (EDGE, LINE + b"(grain 1)\n", (7, 2)),
 ]
 
 
@@ -112,6 +120,21 @@ class ReadingSheets(unittest.TestCase):
         without = sheets.read_sheet(SHEET.replace(b"(grain 1)\n", b""))
         self.assertEqual(without.grain.value, 10)
 
+    def test_lines_among_the_edges(self):
+        sheet = sheets.read_sheet(SHEET.replace(EDGE, EDGE + b"(line (-7 20) (0 3))\n" + EDGE))
+        self.assertEqual([len(edge) for edge in sheet.edges], [8, 4, 8])
+        self.assertEqual([sheets.is_line(edge) for edge in sheet.edges], [False, True, False])
+        self.assertEqual(sheet.edge_values()[1], [-7, 20, 0, 3])
+        self.assertEqual(sheet.edges[1][3], sheets.Number(3, 7, 18))
+
+    def test_lines_count_among_the_edges(self):
+        for cubics, lines, refusal in ((0, 64, 0), (32, 32, 0), (0, 65, 2), (33, 32, 2), (0, 428, 2)):
+            sheet = sheets.read_sheet(SHEET.replace(EDGE, EDGE * cubics + LINE * lines))
+            self.assertEqual(sheets.sheet_refusal(sheet), refusal)
+        longer = SHEET.replace(EDGE, LINE * 429)
+        head = longer[: sheets.SHEET_LIMIT]
+        self.assertEqual(broken_at(longer), (head.count(b"\n") + 1, sheets.SHEET_LIMIT - head.rfind(b"\n")))
+
     def test_any_count_of_edges_is_well_formed(self):
         for count in (0, 1, 65, 200):
             sheet = sheets.read_sheet(SHEET.replace(EDGE, EDGE * count))
@@ -134,7 +157,7 @@ class Messages(unittest.TestCase):
         self.assertEqual(self.message(b"-8 -8", b"x -8"), ("a number", '"x"'))
         self.assertEqual(self.message(b"-8 -8", b"-0 -8")[0], "a digit from 1 to 9 after the minus")
         self.assertEqual(self.message(b"-8 -8", b"1.5 -8"), ('another digit or " "', '"."'))
-        grain_or_edge = '"grain " or "edge (" to end "(grain " or "(edge ("'
+        grain_or_edge = '"grain " or "edge (" or "line (" to end "(grain " or "(edge (" or "(line ("'
         self.assertEqual(self.message(b"(grain", b"(foo"), (grain_or_edge, '"f"'))
 
     def test_why_a_digit_is_wrong(self):

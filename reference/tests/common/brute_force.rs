@@ -1,7 +1,7 @@
 //! The exact check of a finished map against RULES, "The words of demand
 //! 3". It knows nothing of strips, trees or stores: it evaluates the Bernstein
-//! form at the dyadic parameters k/1024 in whole numbers, and compares squares
-//! in `i128`.
+//! form of a cubic, or the weighted ends of a line, at the dyadic parameters
+//! k/1024 in whole numbers, and compares squares in `i128`.
 //!
 //! A map that passes has been refuted at none of these outline points, and each
 //! claim that some outline point exists has been shown with a real one, so a
@@ -13,7 +13,7 @@
 //!   wide and high at most and the cell 2^M, so the farthest two points of them
 //!   are within R + (2T + 2^M)·√2, which is below R + E.
 
-use clearance_reference::Job;
+use clearance_reference::{Edge, Job};
 
 /// The parameter runs over k/1024.
 const STEPS: i64 = 1 << 10;
@@ -30,23 +30,31 @@ fn bernstein(b: [i32; 4], k: i64) -> i64 {
     b0 * l * l * l + 3 * b1 * k * l * l + 3 * b2 * k * k * l + b3 * k * k * k
 }
 
+/// One coordinate of a line at k/1024, times `SCALE`: both ends, weighted.
+fn weighted(ends: [i32; 2], k: i64) -> i64 {
+    let [first, second] = ends.map(i64::from);
+    (first * (STEPS - k) + second * k) * STEPS * STEPS
+}
+
 /// An edge's point at k/1024, times `SCALE`.
-pub fn edge_point(edge: &[i32; 8], k: i64) -> Scaled {
-    let [x0, y0, x1, y1, x2, y2, x3, y3] = *edge;
-    [
-        bernstein([x0, x1, x2, x3], k),
-        bernstein([y0, y1, y2, y3], k),
-    ]
+pub fn edge_point(edge: &Edge, k: i64) -> Scaled {
+    match *edge {
+        Edge::Cubic([x0, y0, x1, y1, x2, y2, x3, y3]) => [
+            bernstein([x0, x1, x2, x3], k),
+            bernstein([y0, y1, y2, y3], k),
+        ],
+        Edge::Line([x0, y0, x1, y1]) => [weighted([x0, x1], k), weighted([y0, y1], k)],
+    }
 }
 
 /// All the points k/1024 of an edge, both ends included.
-pub fn edge_points(edge: &[i32; 8]) -> Vec<Scaled> {
+pub fn edge_points(edge: &Edge) -> Vec<Scaled> {
     (0..=STEPS).map(|k| edge_point(edge, k)).collect()
 }
 
 /// The outline's points k/1024 of every edge.
 pub fn outline_points(job: &Job) -> Vec<Scaled> {
-    job.edges().flat_map(edge_points).collect()
+    job.edges().flat_map(|edge| edge_points(&edge)).collect()
 }
 
 fn square_sum(x: i64, y: i64) -> i128 {

@@ -1,29 +1,39 @@
 //! Random legal jobs of many shapes and sizes.
 
 use super::random::Xorshift;
-use clearance_reference::{judge, Job, COORDINATE_LIMIT, GRAIN_LIMIT, REACH_LIMIT};
+use clearance_reference::{judge, Edge, Job, COORDINATE_LIMIT, GRAIN_LIMIT, REACH_LIMIT};
 
 /// The shape of an edge.
 #[derive(Clone, Copy, Debug)]
 pub enum Shape {
     Point,
-    Line,
-    /// A line whose parameter runs back and forth.
-    FoldedLine,
+    /// A cubic along a line, for which its points are near enough.
+    StraightCubic,
+    /// The same with a parameter that runs back and forth.
+    FoldedCubic,
     Cusp,
     Loop,
     Closed,
     Wiggle,
+    /// No cubic: marked as a line.
+    Line,
+    /// A line in one coordinate's direction.
+    SquareLine,
+    /// A line of one point.
+    PointLine,
 }
 
-pub const SHAPES: [Shape; 7] = [
+pub const SHAPES: [Shape; 10] = [
     Shape::Point,
-    Shape::Line,
-    Shape::FoldedLine,
+    Shape::StraightCubic,
+    Shape::FoldedCubic,
     Shape::Cusp,
     Shape::Loop,
     Shape::Closed,
     Shape::Wiggle,
+    Shape::Line,
+    Shape::SquareLine,
+    Shape::PointLine,
 ];
 
 /// Sizes of an outline, from a few units to the whole range.
@@ -34,20 +44,41 @@ fn coordinate(number: i64) -> i32 {
     number.clamp(-limit, limit) as i32
 }
 
-/// Control points of an edge around the origin.
-fn control_points(rng: &mut Xorshift, shape: Shape, size: i32) -> [[i32; 2]; 4] {
+/// These points, moved from the origin to a middle.
+fn about<const POINTS: usize>(middle: [i32; 2], points: [[i32; 2]; POINTS]) -> [[i32; 2]; POINTS] {
+    points.map(|point| [0, 1].map(|c| coordinate(i64::from(point[c]) + i64::from(middle[c]))))
+}
+
+fn cubic(middle: [i32; 2], points: [[i32; 2]; 4]) -> Edge {
+    let [[x0, y0], [x1, y1], [x2, y2], [x3, y3]] = about(middle, points);
+    Edge::Cubic([x0, y0, x1, y1, x2, y2, x3, y3])
+}
+
+fn line(middle: [i32; 2], ends: [[i32; 2]; 2]) -> Edge {
+    let [[x0, y0], [x1, y1]] = about(middle, ends);
+    Edge::Line([x0, y0, x1, y1])
+}
+
+/// An edge about the middle of the outline.
+fn random_edge(rng: &mut Xorshift, shape: Shape, size: i32, middle: [i32; 2]) -> Edge {
     let mut pick = || [rng.between(-size, size), rng.between(-size, size)];
     let [p, q, a, b] = [pick(), pick(), pick(), pick()];
     let [w, h] = q;
     let along = |k: i32| [0, 1].map(|c| p[c] + k * (q[c] - p[c]) / 3);
     match shape {
-        Shape::Point => [p; 4],
-        Shape::Line => [p, along(1), along(2), q],
-        Shape::FoldedLine => [p, along(5), along(-2), q],
-        Shape::Cusp => [[0, 0], [w, h], [0, h], [w, 0]],
-        Shape::Loop => [[0, 0], [2 * w, h], [-w, h], [w, 0]],
-        Shape::Closed => [p, a, b, p],
-        Shape::Wiggle => [p, a, b, q],
+        Shape::Point => cubic(middle, [p; 4]),
+        Shape::StraightCubic => cubic(middle, [p, along(1), along(2), q]),
+        Shape::FoldedCubic => cubic(middle, [p, along(5), along(-2), q]),
+        Shape::Cusp => cubic(middle, [[0, 0], [w, h], [0, h], [w, 0]]),
+        Shape::Loop => cubic(middle, [[0, 0], [2 * w, h], [-w, h], [w, 0]]),
+        Shape::Closed => cubic(middle, [p, a, b, p]),
+        Shape::Wiggle => cubic(middle, [p, a, b, q]),
+        Shape::Line => line(middle, [p, q]),
+        Shape::SquareLine => {
+            let level = a[0] < 0;
+            line(middle, [p, if level { [w, p[1]] } else { [p[0], h] }])
+        }
+        Shape::PointLine => line(middle, [p, p]),
     }
 }
 
@@ -59,22 +90,15 @@ pub fn random_job(rng: &mut Xorshift, spread: i32) -> Job {
     let room = COORDINATE_LIMIT - size;
     let middle = [rng.between(-room, room), rng.between(-room, room)];
     let mut job = Job::ZERO;
-    job.count = rng.choose(&[1, 1, 1, 2, 2, 3, 5]);
     let one_shape = rng.choose(&SHAPES);
     let mixed = rng.below(2) == 0;
-    for place in job.places.chunks_exact_mut(8).take(job.count) {
+    for _ in 0..rng.choose(&[1, 1, 1, 2, 2, 3, 5]) {
         let shape = if mixed {
             rng.choose(&SHAPES)
         } else {
             one_shape
         };
-        let points = control_points(rng, shape, size);
-        for (number, (control, shift)) in place
-            .iter_mut()
-            .zip(points.as_flattened().iter().zip(middle.iter().cycle()))
-        {
-            *number = coordinate(i64::from(*control) + i64::from(*shift));
-        }
+        job.add(&random_edge(rng, shape, size, middle));
     }
     lay_plate(rng, &mut job, size, middle, spread);
     assert_eq!(judge(&job), Ok(()));

@@ -8,7 +8,7 @@ pub mod brute_force;
 pub mod jobs;
 pub mod random;
 
-use clearance_reference::{map, trees, Job, Refusal};
+use clearance_reference::{map, trees, Edge, Job, Refusal};
 
 /// The sample sheet.
 pub const SAMPLE_SHEET: &str = "\
@@ -50,21 +50,33 @@ pub fn sample_job() -> Job {
 }
 
 /// The sample job with these edges and this grain.
-pub fn job_with(edges: &[[i32; 8]], grain: i32) -> Job {
-    let mut job = sample_job();
-    job.count = edges.len();
-    job.grain = grain;
-    job.places[..8 * edges.len()].copy_from_slice(edges.as_flattened());
+pub fn job_with(edges: &[Edge], grain: i32) -> Job {
+    let mut job = Job {
+        count: 0,
+        grain,
+        ..sample_job()
+    };
+    edges.iter().for_each(|edge| job.add(edge));
     job
 }
 
-/// Four control numbers in x and four in y, as one edge.
-pub fn edge(x: [i32; 4], y: [i32; 4]) -> [i32; 8] {
-    [x[0], y[0], x[1], y[1], x[2], y[2], x[3], y[3]]
+/// Four control numbers in x and four in y, as one cubic.
+pub fn edge(x: [i32; 4], y: [i32; 4]) -> Edge {
+    Edge::Cubic([x[0], y[0], x[1], y[1], x[2], y[2], x[3], y[3]])
 }
 
-/// A straight edge that is long at grain 488 and accepted at 489.
-pub fn long_edge() -> [i32; 8] {
+/// A cubic whose control numbers are all the same.
+pub fn point_edge(number: i32) -> Edge {
+    Edge::Cubic([number; 8])
+}
+
+/// A line by x and y of its two ends.
+pub fn line(ends: [i32; 4]) -> Edge {
+    Edge::Line(ends)
+}
+
+/// A straight cubic that is long at grain 488 and accepted at 489.
+pub fn long_edge() -> Edge {
     edge([0, 333_333, 666_666, 999_999], [0; 4])
 }
 
