@@ -118,7 +118,14 @@ fn check_edge(s: &[i32], marks: &[i32; 64], places: &[i32; 512], e: usize, grain
 // ---- from edge e on
 
 // sum and the nodes of the trees, or 0 if one is long
-fn count_from(marks: &[i32; 64], places: &[i32; 512], e: usize, count: usize, grain: i64, sum: usize) -> usize
+fn count_from(
+    marks: &[i32; 64],
+    places: &[i32; 512],
+    e: usize,
+    count: usize,
+    grain: i64,
+    sum: usize,
+) -> usize
     requires limits { ⌜ Limits (now places) × (e ≤ count) × (count ≤ 64) × (natAbs grain ≤ 100000) × (sum ≤ 2048 * e) ⌝ }
     ensures counted { λ r. ⌜ r ≡ cond (anyLong (treesFrom grain (now (marks .entry)) (now (places .entry)) count e)) 0 (sum + sizes (treesFrom grain (now (marks .entry)) (now (places .entry)) count e)) ⌝ }
 {
@@ -133,7 +140,14 @@ fn count_from(marks: &[i32; 64], places: &[i32; 512], e: usize, count: usize, gr
 }
 
 // writes the trees at the front of s
-fn build_from(s: &mut [i32], marks: &[i32; 64], places: &[i32; 512], e: usize, count: usize, grain: i64)
+fn build_from(
+    s: &mut [i32],
+    marks: &[i32; 64],
+    places: &[i32; 512],
+    e: usize,
+    count: usize,
+    grain: i64,
+)
     requires ready { ⌜ Ahead grain (now marks) (now places) count e (length (now s)) ⌝ }
     ensures written { λ _. ⌜ now (s .exit) ≡ flattenAll (treesFrom grain (now (marks .entry)) (now (places .entry)) count e) ++ drop (width * sizes (treesFrom grain (now (marks .entry)) (now (places .entry)) count e)) (now (s .entry)) ⌝ }
 {
@@ -146,7 +160,14 @@ fn build_from(s: &mut [i32], marks: &[i32; 64], places: &[i32; 512], e: usize, c
 }
 
 // does s begin with the trees
-fn holds_from(s: &[i32], marks: &[i32; 64], places: &[i32; 512], e: usize, count: usize, grain: i64) -> bool
+fn holds_from(
+    s: &[i32],
+    marks: &[i32; 64],
+    places: &[i32; 512],
+    e: usize,
+    count: usize,
+    grain: i64,
+) -> bool
     requires ready { ⌜ Ahead grain (now marks) (now places) count e (length (now s)) ⌝ }
     ensures says { λ r. ⌜ Says r (BeginsAll (treesFrom grain (now (marks .entry)) (now (places .entry)) count e) (now (s .entry))) ⌝ }
 {
@@ -172,7 +193,13 @@ pub fn count_nodes(marks: &[i32; 64], places: &[i32; 512], count: usize, grain: 
 }
 
 // writes a job's trees at the front of the store
-pub fn build_all(store: &mut [i32], marks: &[i32; 64], places: &[i32; 512], count: usize, grain: i32)
+pub fn build_all(
+    store: &mut [i32],
+    marks: &[i32; 64],
+    places: &[i32; 512],
+    count: usize,
+    grain: i32,
+)
     requires ready { ⌜ Whole grain (now marks) (now places) count (length (now store)) ⌝ }
     ensures written { λ _. ⌜ now (store .exit) ≡ flattenAll (trees grain (edgesFrom (now (marks .entry)) (now (places .entry)) count 0)) ++ drop (width * sizes (trees grain (edgesFrom (now (marks .entry)) (now (places .entry)) count 0))) (now (store .entry)) ⌝ }
 {
@@ -180,7 +207,13 @@ pub fn build_all(store: &mut [i32], marks: &[i32; 64], places: &[i32; 512], coun
 }
 
 // does the store begin with a job's trees
-pub fn holds_all(store: &[i32], marks: &[i32; 64], places: &[i32; 512], count: usize, grain: i32) -> bool
+pub fn holds_all(
+    store: &[i32],
+    marks: &[i32; 64],
+    places: &[i32; 512],
+    count: usize,
+    grain: i32,
+) -> bool
     requires ready { ⌜ Whole grain (now marks) (now places) count (length (now store)) ⌝ }
     ensures begins { λ r. ⌜ r ≡ begins (now (store .entry)) (flattenAll (trees grain (edgesFrom (now (marks .entry)) (now (places .entry)) count 0))) ⌝ }
 {
@@ -196,7 +229,13 @@ pub struct Checked {
 }
 
 // refusals 5 and 6, for a store of so many numbers
-pub fn check_trees(marks: &[i32; 64], places: &[i32; 512], count: usize, grain: i32, numbers: usize) -> Checked
+pub fn check_trees(
+    marks: &[i32; 64],
+    places: &[i32; 512],
+    count: usize,
+    grain: i32,
+    numbers: usize,
+) -> Checked
     requires limits { ⌜ Limits (now places) × (1 ≤ count) × (count ≤ 64) × GrainSized grain ⌝ }
     ensures told { λ r. ⌜ Told (trees grain (edgesFrom (now (marks .entry)) (now (places .entry)) count 0)) numbers r ⌝ }
 {
@@ -217,7 +256,13 @@ pub fn check_trees(marks: &[i32; 64], places: &[i32; 512], count: usize, grain: 
 }
 
 // refusal 8
-pub fn check_store(store: &[i32], marks: &[i32; 64], places: &[i32; 512], count: usize, grain: i32) -> u8
+pub fn check_store(
+    store: &[i32],
+    marks: &[i32; 64],
+    places: &[i32; 512],
+    count: usize,
+    grain: i32,
+) -> u8
     requires ready { ⌜ Whole grain (now marks) (now places) count (length (now store)) ⌝ }
     ensures refusal { λ r. ⌜ r ≡ first (check stranger (begins (now (store .entry)) (flattenAll (trees grain (edgesFrom (now (marks .entry)) (now (places .entry)) count 0))))) ⌝ }
 {

@@ -67,16 +67,16 @@ module _ (j : Job) (numbers room : ℕ) (r : Checked) where
 
 -- ---- the trees and the map
 module _ (j : Job) (numbers room nodes : ℕ) (h : Passed j numbers room nodes) (g : mag (j .grain) < 2 ^ 31) where
-  pub trees-ready : Whole (toZ w32 (ofZ w32 (j .grain))) (j .places) (j .count) numbers
+  pub trees-ready : Whole (toZ w32 (ofZ w32 (j .grain))) (j .marks) (j .places) (j .count) numbers
   trees-ready = whole-ready j (toZ w32 (ofZ w32 (j .grain))) (read32 (j .grain) g) (legal j (h .judged)) numbers (h .trees-pass)
 
-  pub store-now : (old new : List ℤ) → new ≡ flattenAll (trees (toZ w32 (ofZ w32 (j .grain))) (edgesFrom (j .places) (j .count) 0)) ++ drop (width * sizes (trees (toZ w32 (ofZ w32 (j .grain))) (edgesFrom (j .places) (j .count) 0))) old → new ≡ over (storeOf j) old
+  pub store-now : (old new : List ℤ) → new ≡ flattenAll (trees (toZ w32 (ofZ w32 (j .grain))) (edgesFrom (j .marks) (j .places) (j .count) 0)) ++ drop (width * sizes (trees (toZ w32 (ofZ w32 (j .grain))) (edgesFrom (j .marks) (j .places) (j .count) 0))) old → new ≡ over (storeOf j) old
   store-now old new e =
       e ∙ rw (read32 (j .grain) g)
       (ap (λ ts. flattenAll ts ++ drop (width * sizes ts) old) (sym (forest-is j)) ∙ ap (λ n. storeOf j ++ drop n old) (sym (length-all (forest j))))
 
 -- the trees that were built are what the drawing asks for
-pub map-now : (j : Job) (nodes : ℕ) (old new : List ℤ) (cells : List ℕ) → Passed j (length old) (length cells) nodes → mag (j .grain) < 2 ^ 31 → new ≡ flattenAll (trees (toZ w32 (ofZ w32 (j .grain))) (edgesFrom (j .places) (j .count) 0)) ++ drop (width * sizes (trees (toZ w32 (ofZ w32 (j .grain))) (edgesFrom (j .places) (j .count) 0))) old → MapReady j cells new
+pub map-now : (j : Job) (nodes : ℕ) (old new : List ℤ) (cells : List ℕ) → Passed j (length old) (length cells) nodes → mag (j .grain) < 2 ^ 31 → new ≡ flattenAll (trees (toZ w32 (ofZ w32 (j .grain))) (edgesFrom (j .marks) (j .places) (j .count) 0)) ++ drop (width * sizes (trees (toZ w32 (ofZ w32 (j .grain))) (edgesFrom (j .marks) (j .places) (j .count) 0))) old → MapReady j cells new
 map-now j nodes old new cells h g e = record {
   accepted = h .judged;
   begins = all-begun new (drop (length (storeOf j)) old) (forest j) (store-now j (length old) (length cells) nodes h g old new e);

@@ -39,8 +39,9 @@ fn go_through(job: Job, numbers: usize, room: usize) -> Checked
     if judged != 0 {
         return refused(judged);
     }
+    let marks = job.marks;
     let places = job.places;
-    let trees = forests::check_trees(&places, job.count, job.grain, numbers);
+    let trees = forests::check_trees(&marks, &places, job.count, job.grain, numbers);
     if trees.refusal != 0 {
         return trees;
     }
@@ -57,8 +58,9 @@ fn draw(job: Job, store: &mut [i32], cells: &mut [u8], nodes: usize)
     ensures trees { λ _. ⌜ now (store .exit) ≡ entries.over (storeOf job) (now (store .entry)) ⌝ }
     ensures letters { λ _. ⌜ now (cells .exit) ≡ entries.over (mapOf job) (now (cells .entry)) ⌝ }
 {
+    let marks = job.marks;
     let places = job.places;
-    forests::build_all(store, &places, job.count, job.grain);
+    forests::build_all(store, &marks, &places, job.count, job.grain);
     drawing::draw_map(cells, store, job);
 }
 

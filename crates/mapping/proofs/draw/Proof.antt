@@ -8,13 +8,13 @@ use Rattle.mapping.proofs.draw.Tie as tie
 
 build-all-requires : tie.Need-build-all-requires
 build-all-requires c κs =
-    let s = c .before .before .before .before .before in
+    let s = c .before .before .before .before .before .before .before in
     let g : mag (s .args .job .grain) < 2 ^ 31 = search needs in
     steps.trees-ready (s .args .job) (length (s .args .store .now)) (length (s .args .cells .now)) (s .args .nodes) (s .pre) g
 
 draw-map-requires : tie.Need-draw-map-requires
 draw-map-requires c κs =
-    let s = c .before .before .before .before .before .before .before .before .before in
+    let s = c .before .before .before .before .before .before .before .before .before .before .before in
     let g : mag (s .args .job .grain) < 2 ^ 31 = search needs in
     let b = c .before .before .before .build-all in
     steps.map-now (s .args .job) (s .args .nodes) (s .args .store .now) (b .last .0) (s .args .cells .now) (s .pre) g (b .ensures)
@@ -27,7 +27,7 @@ same-length-2 c = search needs
 
 returns : tie.Need-returns
 returns c =
-    let s = c .before .before .before .before .before .before .before .before .before .before .before .before in
+    let s = c .before .before .before .before .before .before .before .before .before .before .before .before .before .before in
     let g : mag (s .args .job .grain) < 2 ^ 31 = search needs in
     let b = c .before .before .before .before .before .before .build-all in
     (steps.store-now (s .args .job) (length (s .args .store .now)) (length (s .args .cells .now)) (s .args .nodes) (s .pre) g (s .args .store .now) (b .last .0) (b .ensures), c .before .before .draw-map .ensures)

@@ -22,9 +22,9 @@ ok c = sym (c .before .judge .ensures) ∙ c .if1 .left
 grain-is : (c : tie.Else1) → let j = c .before .before .args .job in toZ w32 (ofZ w32 (j .grain)) ≡ j .grain
 grain-is c = toZ-ofZ (fits32 (grain-sized (legal (c .before .before .args .job) (ok c)) .grain-size) tt)
 
-told : (c : tie.After-check-trees) → let s = c .before .before .before .before .before .before in Told (forest (s .args .job)) (s .args .numbers) (c .check-trees .result)
+told : (c : tie.After-check-trees) → let s = c .before .before .before .before .before .before .before .before in Told (forest (s .args .job)) (s .args .numbers) (c .check-trees .result)
 told c =
-    let g = c .before .before .before .before in
+    let g = c .before .before .before .before .before .before in
     let s = g .before .before in
     told-of (s .args .job) _ (grain-is g) (s .args .numbers) (c .check-trees .result) (c .check-trees .ensures)
 
@@ -41,19 +41,19 @@ returns c =
 
 check-trees-requires : tie.Need-check-trees-requires
 check-trees-requires c κs =
-    let g = c .before .before .before in
+    let g = c .before .before .before .before .before in
     let j = g .before .before .args .job in
     trees-ready j _ (grain-is g) (legal j (ok g))
 
 returns-2 : tie.Need-returns-2
 returns-2 c =
     let t = c .before .before in
-    let g = t .before .before .before .before in
+    let g = t .before .before .before .before .before .before in
     let s = g .before .before in
     steps.refused-trees (s .args .job) (s .args .numbers) (s .args .room) (t .check-trees .result) (ok g) (told t) (c .if2 .taken)
 
 columns-of-requires : tie.Need-columns-of-requires
-columns-of-requires c κs = ok (c .before .before .before .before .before .before)
+columns-of-requires c κs = ok (c .before .before .before .before .before .before .before .before)
 
 mul-if3 : tie.Need-mul-if3
 mul-if3 c = steps.cells-fit-word (c .columns-of .result) (c .columns-of .ensures .1)
@@ -66,7 +66,7 @@ returns-3 c =
     let v = c .before .before in
     let e = v .before in
     let t = e .before .before in
-    let g = t .before .before .before .before in
+    let g = t .before .before .before .before .before .before in
     let s = g .before .before in
     steps.refused-space (s .args .job) (s .args .numbers) (s .args .room) (c .refused2 .result) (ok g) (t .check-trees .result) (told t) (e .if2 .left) (v .columns-of .result) (v .columns-of .ensures .0) (omega (arith, c .before .if3 .taken)) (c .refused2 .ensures)
 
@@ -75,7 +75,7 @@ returns-4 c =
     let v = c .before in
     let e = v .before in
     let t = e .before .before in
-    let g = t .before .before .before .before in
+    let g = t .before .before .before .before .before .before in
     let s = g .before .before in
     steps.all-passed (s .args .job) (s .args .numbers) (s .args .room) (t .check-trees .result) (ok g) (t .check-trees .result) (told t) (e .if2 .left) (v .columns-of .result) (v .columns-of .ensures .0) (omega (arith, c .if3 .left)) refl
 

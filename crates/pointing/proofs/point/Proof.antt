@@ -28,18 +28,18 @@ grain-is : (c : tie.Else1) → let s = c .before .before in toZ w32 (ofZ w32 (s 
 grain-is c = toZ-ofZ (fits32 (grain-sized (good c .job) .grain-size) tt)
 
 -- ---- the checks of the trees
-told : (c : tie.After-check-trees) → let s = c .before .before .before .before .before .before in Told (forest (s .args .job)) (length (s .args .store .now)) (c .check-trees .result)
+told : (c : tie.After-check-trees) → let s = c .before .before .before .before .before .before .before .before in Told (forest (s .args .job)) (length (s .args .store .now)) (c .check-trees .result)
 told c =
-    let g = c .before .before .before .before in
+    let g = c .before .before .before .before .before .before in
     let s = g .before .before in
     told-of (s .args .job) _ (grain-is g) (length (s .args .store .now)) (c .check-trees .result) (c .check-trees .ensures)
 
-trees-pass : (c : tie.Else2) → let s = c .before .before .before .before .before .before .before .before in first (checksOf (forest (s .args .job)) (length (s .args .store .now))) ≡ 0
+trees-pass : (c : tie.Else2) → let s = c .before .before .before .before .before .before .before .before .before .before in first (checksOf (forest (s .args .job)) (length (s .args .store .now))) ≡ 0
 trees-pass c = sym (told (c .before .before) .refusal-is) ∙ c .if2 .left
 
-store-is : (c : tie.After-check-store) → let s = c .before .before .before .before .before .before .before .before .before .before in c .check-store .result ≡ first (check stranger (begins (s .args .store .now) (storeOf (s .args .job))))
+store-is : (c : tie.After-check-store) → let s = c .before .before .before .before .before .before .before .before .before .before .before .before .before in c .check-store .result ≡ first (check stranger (begins (s .args .store .now) (storeOf (s .args .job))))
 unfolding forest outline
-store-is c = rw (grain-is (c .before .before .before .before .before .before .before .before)) at (c .check-store .ensures)
+store-is c = rw (grain-is (c .before .before .before .before .before .before .before .before .before .before .before)) at (c .check-store .ensures)
 
 ask-requires : tie.Need-ask-requires
 ask-requires c κs = search needs
@@ -55,7 +55,7 @@ returns c =
 
 check-trees-requires : tie.Need-check-trees-requires
 check-trees-requires c κs =
-    let g = c .before .before .before in
+    let g = c .before .before .before .before .before in
     trees-ready (g .before .before .args .job) _ (grain-is g) (good g .job)
 
 refused-requires-2 : tie.Need-refused-requires-2
@@ -64,7 +64,7 @@ refused-requires-2 c κs = search needs
 returns-2 : tie.Need-returns-2
 returns-2 c =
     let t = c .before .before .before in
-    let g = t .before .before .before .before in
+    let g = t .before .before .before .before .before .before in
     let s = g .before .before in
     let k = t .check-trees .result .refusal in
     let h = c .before .if2 .taken in
@@ -72,8 +72,8 @@ returns-2 c =
 
 check-store-requires : tie.Need-check-store-requires
 check-store-requires c κs =
-    let e = c .before in
-    let g = e .before .before .before .before .before .before in
+    let e = c .before .before in
+    let g = e .before .before .before .before .before .before .before .before in
     let s = g .before .before in
     whole-ready (s .args .job) _ (grain-is g) (good g .job) (length (s .args .store .now)) (trees-pass e)
 
@@ -83,22 +83,22 @@ refused-requires-3 c κs = search needs
 returns-3 : tie.Need-returns-3
 returns-3 c =
     let h = c .before .before in
-    let e = h .before .before in
-    let g = e .before .before .before .before .before .before in
+    let e = h .before .before .before in
+    let g = e .before .before .before .before .before .before .before .before in
     let s = g .before .before in
     rw (c .refused3 .ensures) (refuse (s .args .job) (s .args .x) (s .args .y) (s .args .store .now) (h .check-store .result) (c .before .if3 .taken) (store-answer (s .args .job) (s .args .x) (s .args .y) (s .args .store .now) (good g) (trees-pass e) (h .check-store .result) (store-is h)))
 
-holds : (c : tie.Else3) → let s = c .before .before .before .before .before .before .before .before .before .before .before in begins (s .args .store .now) (storeOf (s .args .job)) ≡ true
+holds : (c : tie.Else3) → let s = c .before .before .before .before .before .before .before .before .before .before .before .before .before .before in begins (s .args .store .now) (storeOf (s .args .job)) ≡ true
 holds c =
     let h = c .before in
-    let e = h .before .before in
-    let g = e .before .before .before .before .before .before in
+    let e = h .before .before .before in
+    let g = e .before .before .before .before .before .before .before .before in
     let s = g .before .before in
     begun (s .args .job) (s .args .x) (s .args .y) (s .args .store .now) (good g) (trees-pass e) (h .check-store .result) (store-is h) (c .if3 .left)
 
 nearest-requires : tie.Need-nearest-requires
 nearest-requires c κs =
-    let g = c .before .before .before .before .before .before .before .before .before in
+    let g = c .before .before .before .before .before .before .before .before .before .before .before .before in
     let s = g .before .before in
     let p = good g in
     rw (toZ-ofZ (s .fits .x), toZ-ofZ (s .fits .y)) (trees-there (s .args .job) (s .args .x) (s .args .y) (s .args .store .now) p (holds c), p .job .some, p .job .few, p .x-in, p .y-in)
@@ -108,8 +108,8 @@ returns-4 c =
     let d = c .before in
     let o = d .before in
     let h = o .before in
-    let e = h .before .before in
-    let g = e .before .before .before .before .before .before in
+    let e = h .before .before .before in
+    let g = e .before .before .before .before .before .before .before .before in
     let s = g .before .before in
     let p = good g in
     let f = d .nearest .result in
