@@ -1,5 +1,6 @@
 -- The four control numbers are read from the edge's place, and each is a coordinate. Assumes nothing.
 use Prim.Native.Nat.{ℕ, _+_}
+use native.Mathlib.Omega.{arith}
 use lib.IntN.{pos}
 use lib.ListN.{getD}
 use Rattle.integers.specs.Signed.{Made, sized, back}
@@ -16,16 +17,16 @@ module _ (c : tie.After-control4) where
   at = s .args .b
 
   b0 : Made (c .before .before .before .control .result) (getD (s .args .places .now) at (pos 0)) 1000000
-  b0 = read at (s .pre .0) (c .before .before .before .control .ensures)
+  b0 = read at (s .pre .0) (c .before .before .before .control .ensures) (omega arith)
 
   b1 : Made (c .before .before .control2 .result) (getD (s .args .places .now) (at + 2) (pos 0)) 1000000
-  b1 = read (at + 2) (s .pre .0) (c .before .before .control2 .ensures)
+  b1 = read (at + 2) (s .pre .0) (c .before .before .control2 .ensures) (omega arith)
 
   b2 : Made (c .before .control3 .result) (getD (s .args .places .now) (at + 4) (pos 0)) 1000000
-  b2 = read (at + 4) (s .pre .0) (c .before .control3 .ensures)
+  b2 = read (at + 4) (s .pre .0) (c .before .control3 .ensures) (omega arith)
 
   b3 : Made (c .control4 .result) (getD (s .args .places .now) (at + 6) (pos 0)) 1000000
-  b3 = read (at + 6) (s .pre .0) (c .control4 .ensures)
+  b3 = read (at + 6) (s .pre .0) (c .control4 .ensures) (omega arith)
 
 control-requires : tie.Need-control-requires
 control-requires c κs = search needs

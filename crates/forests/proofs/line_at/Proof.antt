@@ -1,5 +1,6 @@
 -- The two ends are read from the edge's place, and each is a coordinate. Assumes nothing.
 use Prim.Native.Nat.{ℕ, _+_}
+use native.Mathlib.Omega.{arith}
 use lib.IntN.{pos}
 use lib.ListN.{getD}
 use Rattle.integers.specs.Signed.{Made, sized, back}
@@ -16,10 +17,10 @@ module _ (c : tie.After-control2) where
   at = s .args .b
 
   first : Made (c .before .control .result) (getD (s .args .places .now) at (pos 0)) 1000000
-  first = read at (s .pre .0) (c .before .control .ensures)
+  first = read at (s .pre .0) (c .before .control .ensures) (omega arith)
 
   second : Made (c .control2 .result) (getD (s .args .places .now) (at + 2) (pos 0)) 1000000
-  second = read (at + 2) (s .pre .0) (c .control2 .ensures)
+  second = read (at + 2) (s .pre .0) (c .control2 .ensures) (omega arith)
 
 control-requires : tie.Need-control-requires
 control-requires c κs = search needs
