@@ -1,10 +1,11 @@
 /*
  * clearance.h: clearance maps of square plates.
  *
- * From an outline of 1 to 64 cubic Bezier edges the library builds trees of
- * strips, one tree an edge. With them it draws a map that tells for each cell of
- * a plate whether it is clear of the outline, inside its reach or doubtful, and
- * it bounds the distance of a point from the outline.
+ * From an outline of 1 to 64 edges, cubic Bezier curves and straight lines in
+ * any order, the library builds trees of strips, one tree an edge. With them it
+ * draws a map that tells for each cell of a plate whether it is clear of the
+ * outline, inside its reach or doubtful, and it bounds the distance of a point
+ * from the outline.
  *
  * Every function takes any numbers and any lengths, and gives an answer or a
  * refusal. None keeps anything between calls or asks for memory of its own.
@@ -25,7 +26,9 @@
  * Jobs. A job is a row of CLEARANCE_JOB_NUMBERS numbers. A read fills such a row
  * and takes no other. The other functions take a row and its length: numbers that
  * a shorter row lacks are taken as 0, and of a longer row only the first
- * CLEARANCE_JOB_NUMBERS are looked at.
+ * CLEARANCE_JOB_NUMBERS are looked at. The marks, which tell lines from cubics,
+ * stand last: a row that ends before them, of CLEARANCE_MARKS numbers or fewer,
+ * has cubics alone.
  */
 #ifndef CLEARANCE_H
 #define CLEARANCE_H
@@ -45,8 +48,9 @@ enum {
     CLEARANCE_FORM = 1,
     /* "edges": there are no edges, or more than 64. From all four. */
     CLEARANCE_EDGES = 2,
-    /* "range": a number is out of its range, or a place past the edges holds
-     * something other than zeros. From all four. */
+    /* "range": a number is out of its range, an edge's mark is no kind's, one of
+     * a line's last four numbers is not 0, or a place or a mark past the edges
+     * holds something other than zeros. From all four. */
     CLEARANCE_RANGE = 3,
     /* "cell": the smallest cell is larger than the plate, or the plate is more
      * than 256 of them wide. From all four. */
@@ -79,19 +83,28 @@ enum {
     CLEARANCE_GRAIN = 5,
     /* How many edges there are: 1 to 64. A negative count is taken as 0. */
     CLEARANCE_COUNT = 6,
-    /* The first of 64 places, eight numbers each: x0 y0 x1 y1 x2 y2 x3 y3, the
-     * control points of an edge, -1000000 to 1000000. Places past the count are
-     * all zeros. */
-    CLEARANCE_PLACES = 7
+    /* The first of 64 places, eight numbers each, -1000000 to 1000000. Of a
+     * cubic: x0 y0 x1 y1 x2 y2 x3 y3, its control points. Of a line: x0 y0 x1 y1,
+     * its ends, and four zeros. Places past the count are all zeros. */
+    CLEARANCE_PLACES = 7,
+    /* The first of 64 marks, one a place: the edge's kind, and 0 past the
+     * count. */
+    CLEARANCE_MARKS = 519
 };
 
-/* The most edges of a job, and the places for them. */
+/* The kinds of edges, which a job's marks tell. */
+enum {
+    CLEARANCE_CUBIC = 0,
+    CLEARANCE_LINE = 1
+};
+
+/* The most edges of a job, and the places and marks for them. */
 #define CLEARANCE_EDGES_MOST 64
-/* The numbers of a place. */
+/* The numbers of a place, and those of them that a line has. */
 #define CLEARANCE_PLACE_NUMBERS 8
-/* All the numbers of a job. */
-#define CLEARANCE_JOB_NUMBERS \
-    (CLEARANCE_PLACES + CLEARANCE_EDGES_MOST * CLEARANCE_PLACE_NUMBERS)
+#define CLEARANCE_LINE_NUMBERS 4
+/* All the numbers of a job: 583. */
+#define CLEARANCE_JOB_NUMBERS (CLEARANCE_MARKS + CLEARANCE_EDGES_MOST)
 
 /* The greatest size of a coordinate, above and below zero. */
 #define CLEARANCE_COORDINATE_MOST 1000000

@@ -33,7 +33,7 @@ const NUMBERS: [&str; 26] = [
 ];
 
 /// Bytes that matter to the form, and some that look like them.
-const BYTES: &[u8] = b"0123456789-() \n\r\tjobplatecellreachgrainedge+./:\0\x8a\xa0\xff";
+const BYTES: &[u8] = b"0123456789-() \n\r\tjobplatecellreachgrainedgeline+./:\0\x8a\xa0\xff";
 
 /// Damages a sheet once.
 pub fn damage(random: &mut Random, sheet: &mut Vec<u8>) {
@@ -42,7 +42,7 @@ pub fn damage(random: &mut Random, sheet: &mut Vec<u8>) {
         return;
     }
     let place = random.below(sheet.len());
-    match random.below(14) {
+    match random.below(16) {
         0 => sheet[place] ^= 1 << random.below(8),
         1 => sheet[place] = random.choose(BYTES),
         2 => sheet[place] = random.bits() as u8,
@@ -52,6 +52,7 @@ pub fn damage(random: &mut Random, sheet: &mut Vec<u8>) {
         6 => sheet.truncate(place),
         7 => sheet.extend((0..=random.below(3)).map(|_| random.choose(BYTES))),
         8 => change_lines(random, sheet),
+        9 | 10 => change_points(random, sheet),
         _ => change_number(random, sheet),
     }
 }
@@ -73,6 +74,36 @@ fn change_lines(random: &mut Random, sheet: &mut Vec<u8>) {
     } else {
         let times = random.choose(&[0, 2, 3, 64, 65, 300]);
         lines[place] = lines[place].repeat(times);
+    }
+    *sheet = lines.concat();
+}
+
+/// Gives the line of an edge the other kind's word, a point more or a point less.
+fn change_points(random: &mut Random, sheet: &mut Vec<u8>) {
+    const LAST: &[u8] = b"))\n";
+    let pieces = sheet.split_inclusive(|&byte| byte == b'\n');
+    let mut lines: Vec<Vec<u8>> = pieces.map(<[u8]>::to_vec).collect();
+    let is_edge = |line: &Vec<u8>| {
+        (line.starts_with(b"(edge (") || line.starts_with(b"(line (")) && line.ends_with(LAST)
+    };
+    let edges: Vec<usize> = (0..lines.len()).filter(|&at| is_edge(&lines[at])).collect();
+    if edges.is_empty() {
+        return;
+    }
+    let line = &mut lines[random.choose(&edges)];
+    // From the space before the last point to the end of it.
+    let start = line.iter().rposition(|&byte| byte == b'(').unwrap_or(0) - 1;
+    let point = start..line.len() - LAST.len() + 1;
+    match random.below(3) {
+        0 => {
+            let word: [u8; 4] = if line[1] == b'e' { *b"line" } else { *b"edge" };
+            line[1..5].copy_from_slice(&word);
+        }
+        1 => drop(line.drain(point)),
+        _ => {
+            let again = line[point.clone()].to_vec();
+            line.splice(point.end..point.end, again);
+        }
     }
     *sheet = lines.concat();
 }

@@ -2,22 +2,20 @@
 
 use crate::numbers::PLACE;
 use crate::random::Random;
-use clearance_reference::COORDINATE_LIMIT;
+use clearance_reference::{Edge, COORDINATE_LIMIT};
 
-/// The eight numbers of an edge.
-pub type Edge = [i32; PLACE];
-
-/// The shape of an edge.
+/// The shape of a cubic. A line has the first and the last of its control points
+/// as its ends.
 #[derive(Clone, Copy)]
 pub enum Shape {
     /// All four control points at one spot.
     Spot,
     /// Control points that differ by one at most, where rounding tells.
     Crumb,
-    Line,
-    /// A line along an axis.
+    Straight,
+    /// Straight along an axis.
     Level,
-    /// A line whose parameter runs back and forth.
+    /// Straight, with a parameter that runs back and forth.
     Folded,
     Cusp,
     Loop,
@@ -28,7 +26,7 @@ pub enum Shape {
 pub const SHAPES: [Shape; 9] = [
     Shape::Spot,
     Shape::Crumb,
-    Shape::Line,
+    Shape::Straight,
     Shape::Level,
     Shape::Folded,
     Shape::Cusp,
@@ -36,6 +34,38 @@ pub const SHAPES: [Shape; 9] = [
     Shape::Closed,
     Shape::Free,
 ];
+
+/// Which edges of a job are lines.
+#[derive(Clone, Copy)]
+pub enum Mix {
+    Cubics,
+    Lines,
+    Both,
+}
+
+impl Mix {
+    /// As often the one as the other.
+    pub fn random(random: &mut Random) -> Mix {
+        random.choose(&[Mix::Cubics, Mix::Lines, Mix::Both])
+    }
+
+    /// Whether the next edge is a line.
+    pub fn line(self, random: &mut Random) -> bool {
+        match self {
+            Mix::Cubics => false,
+            Mix::Lines => true,
+            Mix::Both => random.once_in(2),
+        }
+    }
+}
+
+/// The numbers that an edge has.
+pub fn numbers_mut(edge: &mut Edge) -> &mut [i32] {
+    match edge {
+        Edge::Cubic(numbers) => numbers,
+        Edge::Line(numbers) => numbers,
+    }
+}
 
 /// Where an outline lies and how large it is.
 #[derive(Clone, Copy)]
@@ -71,15 +101,21 @@ impl Ground {
         [0, 1].map(|_| random.between(-self.size, self.size))
     }
 
-    /// A random edge of this shape here, its numbers kept in range.
-    pub fn edge(&self, random: &mut Random, shape: Shape) -> Edge {
+    /// A random edge of this shape here, a cubic or a line, its numbers kept in
+    /// range.
+    pub fn edge(&self, random: &mut Random, shape: Shape, line: bool) -> Edge {
         let points = self.control_points(random, shape);
-        let mut edge = [0; PLACE];
-        for (index, number) in edge.iter_mut().enumerate() {
+        let mut numbers = [0; PLACE];
+        for (index, number) in numbers.iter_mut().enumerate() {
             let free = points[index / 2][index % 2].saturating_add(self.middle[index % 2]);
             *number = free.clamp(-COORDINATE_LIMIT, COORDINATE_LIMIT);
         }
-        edge
+        let [x0, y0, .., x3, y3] = numbers;
+        if line {
+            Edge::Line([x0, y0, x3, y3])
+        } else {
+            Edge::Cubic(numbers)
+        }
     }
 
     fn control_points(&self, random: &mut Random, shape: Shape) -> [[i32; 2]; 4] {
@@ -89,7 +125,7 @@ impl Ground {
         match shape {
             Shape::Spot => [p; 4],
             Shape::Crumb => [0; 4].map(|_| p.map(|number| number + random.between(-1, 1))),
-            Shape::Line => [p, along(1), along(2), q],
+            Shape::Straight => [p, along(1), along(2), q],
             Shape::Level => [p, a, b, q].map(|[x, _]| [x, h]),
             Shape::Folded => [p, along(5), along(-2), q],
             Shape::Cusp => [[0, 0], [w, h], [0, h], [w, 0]],

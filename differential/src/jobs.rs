@@ -1,7 +1,9 @@
 //! Random legal jobs. Some are long, which only their trees tell.
 
-use crate::edges::{Ground, SHAPES};
-use crate::numbers::{reference_job, Numbers, COUNT, GRAIN, M, N, PLACE, PLACES, REACH, X, Y};
+use crate::edges::{Ground, Mix, SHAPES};
+use crate::numbers::{
+    edge_at, lay, reference_job, Numbers, COUNT, GRAIN, M, N, PLACES, REACH, X, Y,
+};
 use crate::random::Random;
 use crate::tuning::{brink_grain, tied_grain, tied_reach};
 use clearance_reference::{judge, COORDINATE_LIMIT, GRAIN_LIMIT, REACH_LIMIT};
@@ -41,15 +43,13 @@ pub fn crowded_job(random: &mut Random) -> Numbers {
     let middle = [0; 2].map(|_| random.between(-900_000, 900_000));
     let ground = Ground { middle, size };
     let count = random.choose(&[7, 33, 63, 64, 64]);
-    for place in 0..clearance::EDGES_MOST {
+    let mix = Mix::random(random);
+    job[PLACES..].fill(0);
+    for index in 0..count {
         let shape = random.choose(&SHAPES);
-        let edge = if place < count {
-            ground.part(random).edge(random, shape)
-        } else {
-            [0; PLACE]
-        };
-        let start = PLACES + PLACE * place;
-        job[start..start + PLACE].copy_from_slice(&edge);
+        let line = mix.line(random);
+        let edge = ground.part(random).edge(random, shape, line);
+        lay(&mut job, index, &edge);
     }
     job[COUNT] = count as i32;
     job[N] = size.ilog2() as i32 + 1;
@@ -71,18 +71,20 @@ fn lay_edges(random: &mut Random, job: &mut Numbers, ground: Ground) {
     let one_shape = random.choose(&SHAPES);
     let mixed = random.once_in(2);
     let scattered = random.once_in(2);
+    let mix = Mix::random(random);
     for index in 0..count as usize {
-        let place = PLACES + PLACE * index;
         let edge = if index > 0 && random.once_in(6) {
             // The edge before it once more: two edges then attain the same hi.
-            job[place - PLACE..place].try_into().unwrap_or([0; PLACE])
+            edge_at(job, index - 1)
         } else {
             let own_shape = random.choose(&SHAPES);
             let own_ground = ground.part(random);
             let edge_ground = if scattered { own_ground } else { ground };
-            edge_ground.edge(random, if mixed { own_shape } else { one_shape })
+            let shape = if mixed { own_shape } else { one_shape };
+            let line = mix.line(random);
+            edge_ground.edge(random, shape, line)
         };
-        job[place..place + PLACE].copy_from_slice(&edge);
+        lay(job, index, &edge);
     }
 }
 

@@ -2,33 +2,38 @@
 
 use crate::fault::Fault;
 use crate::lent::Lent;
-use crate::numbers::{Numbers, COUNT, GRAIN, M, N, PLACES, REACH, X, Y};
+use crate::numbers::{lay, Numbers, COUNT, GRAIN, M, MARKS, N, REACH, X, Y};
 use crate::random::Random;
 use crate::spots::spot_in_range;
 use crate::stores::right_numbers;
 use crate::tally::Tally;
 use crate::{map_case, point_case, write_case};
+use clearance_reference::Edge;
 
-/// A straight edge that takes all ten halvings at the grain 489.
-const DEEP_EDGE: [i32; 8] = [0, 0, 333_333, 0, 666_666, 0, 999_999, 0];
-const DEEP_GRAIN: i32 = 489;
+/// A straight cubic and a line, each with the least grain at which it is not long:
+/// there it takes all ten halvings.
+const DEEP_EDGES: [(Edge, i32); 2] = [
+    (Edge::Cubic([0, 0, 333_333, 0, 666_666, 0, 999_999, 0]), 489),
+    (Edge::Line([-1_000_000, 0, 1_000_000, 0]), 977),
+];
 
 /// The job with the longest sheet: each number has the most bytes it can have.
 fn longest_sheet() -> Numbers {
     let mut job = [-1_000_000; clearance::JOB_NUMBERS];
     (job[N], job[M], job[COUNT]) = (20, 20, 64);
     (job[REACH], job[GRAIN]) = (1_000_000, 100_000);
+    job[MARKS..].fill(0);
     job
 }
 
 /// A job with the most nodes, on a plate of one cell.
-fn fullest_store() -> Numbers {
+fn fullest_store((edge, grain): (Edge, i32)) -> Numbers {
     let mut job = [0; clearance::JOB_NUMBERS];
     (job[X], job[Y]) = (-5_000, 1_000);
     (job[N], job[M], job[COUNT]) = (13, 13, 64);
-    (job[REACH], job[GRAIN]) = (500, DEEP_GRAIN);
-    for place in job[PLACES..].chunks_mut(DEEP_EDGE.len()) {
-        place.copy_from_slice(&DEEP_EDGE);
+    (job[REACH], job[GRAIN]) = (500, grain);
+    for index in 0..clearance::EDGES_MOST {
+        lay(&mut job, index, &edge);
     }
     job
 }
@@ -43,7 +48,7 @@ pub fn largest(random: &mut Random, tally: &mut Tally) -> Result<(), Fault> {
     if !random.once_in(20) {
         return Ok(());
     }
-    let job = fullest_store();
+    let job = fullest_store(random.choose(&DEEP_EDGES));
     for numbers in [clearance::STORE_MOST - 1, clearance::STORE_MOST] {
         map_case::compare(&job, (numbers, 1), random.bits(), tally)?;
     }

@@ -43,6 +43,9 @@ const _: () = {
     assert!(clearance::NODE_NUMBERS == clearance_reference::trees::NUMBERS_A_NODE);
     assert!(clearance::SHEET_READ_MOST == clearance_reference::SHEET_LIMIT);
     assert!(clearance::EDGES_MOST == clearance_reference::EDGE_LIMIT);
+    assert!(clearance::LINE_NUMBERS == clearance_reference::NUMBERS_A_LINE);
+    assert!(clearance::CUBIC == clearance_reference::CUBIC_MARK);
+    assert!(clearance::LINE == clearance_reference::LINE_MARK);
 };
 
 /// Runs what the options ask for; `None` after a fault.

@@ -1,6 +1,6 @@
 //! A job as the row of numbers that the library takes, legal or not.
 
-use clearance_reference::Job;
+use clearance_reference::{Edge, Job};
 use std::fmt::Write;
 
 pub const X: usize = 0;
@@ -14,6 +14,8 @@ pub const COUNT: usize = 6;
 pub const PLACES: usize = clearance::PLACES;
 /// Numbers of a place.
 pub const PLACE: usize = clearance::PLACE_NUMBERS;
+/// The first mark.
+pub const MARKS: usize = clearance::MARKS;
 
 /// The numbers of a job, in the library's order.
 pub type Numbers = [i32; clearance::JOB_NUMBERS];
@@ -31,7 +33,8 @@ pub fn reference_job(numbers: &Numbers) -> Job {
         count: usize::try_from(numbers[COUNT]).unwrap_or(0),
         ..Job::ZERO
     };
-    job.places.copy_from_slice(&numbers[PLACES..]);
+    job.places.copy_from_slice(&numbers[PLACES..MARKS]);
+    job.marks.copy_from_slice(&numbers[MARKS..]);
     job
 }
 
@@ -40,7 +43,8 @@ pub fn numbers_of(job: &Job) -> Numbers {
     let mut numbers = [0; clearance::JOB_NUMBERS];
     let count = i32::try_from(job.count).unwrap_or(i32::MAX);
     numbers[..PLACES].copy_from_slice(&[job.x, job.y, job.n, job.m, job.reach, job.grain, count]);
-    numbers[PLACES..].copy_from_slice(&job.places);
+    numbers[PLACES..MARKS].copy_from_slice(&job.places);
+    numbers[MARKS..].copy_from_slice(&job.marks);
     numbers
 }
 
@@ -56,19 +60,35 @@ pub fn binding_job(numbers: &Numbers) -> clearance::Job {
         count: numbers[COUNT],
         ..clearance::Job::ZERO
     };
-    job.places.copy_from_slice(&numbers[PLACES..]);
+    job.places.copy_from_slice(&numbers[PLACES..MARKS]);
+    job.marks.copy_from_slice(&numbers[MARKS..]);
     job
 }
 
-/// A job in few words: its first seven numbers and the places that are edges or
-/// not all zeros.
+/// The edge in a place of a legal job.
+pub fn edge_at(numbers: &Numbers, index: usize) -> Edge {
+    let (places, _) = numbers[PLACES..MARKS].as_chunks();
+    Edge::of(numbers[MARKS + index], &places[index])
+}
+
+/// Lays an edge into a place.
+pub fn lay(numbers: &mut Numbers, index: usize, edge: &Edge) {
+    let start = PLACES + PLACE * index;
+    numbers[start..start + PLACE].copy_from_slice(&edge.place());
+    numbers[MARKS + index] = edge.mark();
+}
+
+/// A job in few words: its first seven numbers and the places and marks that are
+/// an edge's or not all zeros.
 pub fn describe(numbers: &Numbers) -> String {
     let [x, y, n, m, reach, grain, count] = [0, 1, 2, 3, 4, 5, 6].map(|index| numbers[index]);
     let mut text = format!("job x {x} y {y} n {n} m {m} reach {reach} grain {grain} count {count}");
-    for (index, place) in numbers[PLACES..].chunks(PLACE).enumerate() {
-        if index < usize::try_from(count).unwrap_or(0) || place.iter().any(|&number| number != 0) {
+    let marks = numbers[MARKS..].iter();
+    for (index, (place, mark)) in numbers[PLACES..MARKS].chunks(PLACE).zip(marks).enumerate() {
+        let used = index < usize::try_from(count).unwrap_or(0);
+        if used || *mark != 0 || place.iter().any(|&number| number != 0) {
             // Writing to a string cannot fail.
-            let _ = write!(text, "\n    place {index}: {place:?}");
+            let _ = write!(text, "\n    place {index}, mark {mark}: {place:?}");
         }
     }
     text

@@ -1,7 +1,7 @@
 //! A job lent as a row of numbers, whole, short or long.
 
 use crate::lent::Lent;
-use crate::numbers::{Numbers, PLACE, PLACES};
+use crate::numbers::{Numbers, MARKS, PLACE, PLACES};
 use crate::random::Random;
 
 /// The lent row and the job that it stands for.
@@ -13,7 +13,8 @@ pub struct Row {
 impl Row {
     /// A row of the job; the salt settles its length. Most are whole. Some go on
     /// past the job, and some leave out zeros at its end, with other numbers
-    /// right behind. A few are cut off anywhere, which mostly is another job.
+    /// right behind. A few are cut off anywhere, which mostly is another job, or
+    /// where the marks begin, which takes its lines for cubics.
     pub fn of(job: &Numbers, salt: u64) -> Row {
         let mut random = Random::new(salt, 0);
         let whole = job.len();
@@ -25,9 +26,10 @@ impl Row {
                 Lent::holding(&job[..length], salt)
             }
             2 => {
-                let length = random.choose(&[0, PLACES - 1, PLACES, PLACES + PLACE, whole - 1]);
+                let first = random.choose(&[0, PLACES - 1, PLACES, PLACES + PLACE]);
+                let last = random.choose(&[MARKS - 1, MARKS, MARKS + 1, whole - 1]);
                 let any = random.below(whole);
-                Lent::cut(job, random.choose(&[length, any]), salt)
+                Lent::cut(job, random.choose(&[first, last, any]), salt)
             }
             _ => Lent::holding(job, salt),
         };

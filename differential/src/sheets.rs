@@ -1,11 +1,11 @@
 //! Sheets whose form is right, whatever their numbers say.
 
-use crate::edges::Edge;
+use crate::edges::numbers_mut;
 use crate::jobs::sketch_job;
-use crate::numbers::{Numbers, COUNT, GRAIN, M, N, PLACE, PLACES, REACH, X, Y};
+use crate::numbers::{edge_at, Numbers, COUNT, GRAIN, M, N, PLACE, REACH, X, Y};
 use crate::random::Random;
 use crate::spoiling::odd_number;
-use clearance_reference::DEFAULT_GRAIN;
+use clearance_reference::{Edge, DEFAULT_GRAIN, NUMBERS_A_LINE};
 use std::fmt::Write;
 
 /// The greatest number of seven digits.
@@ -27,7 +27,8 @@ pub fn odd_sheet(random: &mut Random) -> Vec<u8> {
         let number = odd_number(random).clamp(-DIGITS_MOST, DIGITS_MOST);
         if random.once_in(3) {
             let edge = random.below(edges.len());
-            edges[edge][random.below(PLACE)] = number;
+            let numbers = numbers_mut(&mut edges[edge]);
+            numbers[random.below(numbers.len())] = number;
         } else {
             job[random.below(COUNT)] = number;
         }
@@ -45,18 +46,21 @@ pub fn odd_sheet(random: &mut Random) -> Vec<u8> {
     text(&job, named, &edges)
 }
 
-/// A sheet of right form and of just this length, from 2,000 bytes on. It has more
-/// edges than are allowed if it is long.
+/// A sheet of right form and of just this length, from 2,000 bytes on, of cubics
+/// or of lines. It has more edges than are allowed if it is long.
 pub fn sheet_of_length(random: &mut Random, length: usize) -> Vec<u8> {
-    const SHORTEST_LINE: usize = 31;
     let mut job = [0; clearance::JOB_NUMBERS];
     (job[REACH], job[GRAIN]) = (1, 1);
     let bare = text(&job, true, &[]).len();
-    let lines = (length - bare) / random.choose(&[SHORTEST_LINE, 50, 75]);
-    let mut edges = vec![[0; PLACE]; lines];
-    // Each digit more is a byte more. Eight numbers have 48 to spare a line.
-    let mut spare = length - bare - lines * SHORTEST_LINE;
-    for number in edges.as_flattened_mut() {
+    let (edge, bytes) = random.choose(&[
+        (Edge::Cubic([0; PLACE]), [31, 50, 75]),
+        (Edge::Line([0; NUMBERS_A_LINE]), [19, 30, 40]),
+    ]);
+    let lines = (length - bare) / random.choose(&bytes);
+    let mut edges = vec![edge; lines];
+    // Each digit more is a byte more. Each number has six to spare.
+    let mut spare = length - bare - lines * bytes[0];
+    for number in edges.iter_mut().flat_map(numbers_mut) {
         let more = spare.min(6);
         *number = 10_i32.pow(more as u32) * i32::from(more > 0);
         spare -= more;
@@ -65,8 +69,9 @@ pub fn sheet_of_length(random: &mut Random, length: usize) -> Vec<u8> {
 }
 
 fn edges_of(job: &Numbers) -> Vec<Edge> {
-    let (edges, _) = job[PLACES..].as_chunks();
-    edges[..job[COUNT] as usize].to_vec()
+    (0..job[COUNT] as usize)
+        .map(|index| edge_at(job, index))
+        .collect()
 }
 
 /// The text of a sheet.
@@ -77,11 +82,14 @@ fn text(job: &Numbers, grain_named: bool, edges: &[Edge]) -> Vec<u8> {
         // Writing to a string cannot fail.
         let _ = writeln!(text, "(grain {})", job[GRAIN]);
     }
-    for [x0, y0, x1, y1, x2, y2, x3, y3] in edges {
-        let _ = writeln!(
-            text,
-            "(edge ({x0} {y0}) ({x1} {y1}) ({x2} {y2}) ({x3} {y3}))"
-        );
+    for edge in edges {
+        let _ = match edge {
+            Edge::Cubic([x0, y0, x1, y1, x2, y2, x3, y3]) => writeln!(
+                text,
+                "(edge ({x0} {y0}) ({x1} {y1}) ({x2} {y2}) ({x3} {y3}))"
+            ),
+            Edge::Line([x0, y0, x1, y1]) => writeln!(text, "(line ({x0} {y0}) ({x1} {y1}))"),
+        };
     }
     text += ")\n";
     text.into_bytes()

@@ -1,9 +1,9 @@
 //! Stores to ask a point of: the right one and others.
 
 use crate::lent::Lent;
-use crate::numbers::{reference_job, Numbers, COUNT, GRAIN, PLACE, PLACES};
+use crate::numbers::{edge_at, lay, reference_job, Numbers, COUNT, GRAIN, MARKS, PLACE, PLACES};
 use crate::random::Random;
-use clearance_reference::trees;
+use clearance_reference::{trees, Edge};
 
 /// The numbers of a job's trees, none if it has no trees.
 pub fn right_numbers(job: &Numbers) -> Vec<i32> {
@@ -49,11 +49,19 @@ pub fn changed_store(random: &mut Random, right: &[i32]) -> Lent<i32> {
     Lent::holding(&numbers, random.bits())
 }
 
+/// A line as the cubic whose place it has, or a cubic cut to a line's numbers.
+fn other_kind(edge: Edge) -> Edge {
+    match edge {
+        Edge::Cubic([x0, y0, x1, y1, ..]) => Edge::Line([x0, y0, x1, y1]),
+        Edge::Line(_) => Edge::Cubic(edge.place()),
+    }
+}
+
 /// The store of a job that is like this one, or zeros, or marks.
 pub fn others_store(random: &mut Random, job: &Numbers) -> Lent<i32> {
     let length = right_numbers(job).len();
     let mut other = *job;
-    match random.below(6) {
+    match random.below(7) {
         0 => return Lent::marked(length, random.bits()),
         1 => return Lent::holding(&vec![0; length], random.bits()),
         2 => {
@@ -62,7 +70,12 @@ pub fn others_store(random: &mut Random, job: &Numbers) -> Lent<i32> {
         }
         3 => other[GRAIN] += 1,
         // The first edge as the last.
-        4 => other[PLACES..PLACES + PLACE * job[COUNT].clamp(1, 64) as usize].rotate_left(PLACE),
+        4 => {
+            let count = job[COUNT].clamp(1, 64) as usize;
+            other[PLACES..PLACES + PLACE * count].rotate_left(PLACE);
+            other[MARKS..MARKS + count].rotate_left(1);
+        }
+        5 => lay(&mut other, 0, &other_kind(edge_at(job, 0))),
         // Its plate and reach, which no tree depends on.
         _ => other[..GRAIN].copy_from_slice(&[5, -5, 6, 6, 77]),
     }

@@ -1,11 +1,12 @@
 //! Jobs in which one cell meets one of the tests of a strip with equality: a
 //! whole number decides there, and rounding or a wrong sign of comparison shows.
 
-use crate::edges::{Edge, Ground, SHAPES};
+use crate::edges::{numbers_mut, Ground, SHAPES};
 use crate::jobs::tuned_job;
-use crate::numbers::{Numbers, COUNT, GRAIN, M, N, PLACE, PLACES, REACH, X, Y};
+use crate::numbers::{lay, Numbers, COUNT, GRAIN, M, N, REACH, X, Y};
 use crate::random::Random;
 use clearance_reference::strips::{Piece, Strip};
+use clearance_reference::Edge;
 
 /// Whole legs and hypotenuse of right triangles, some with one leg only.
 const TRIANGLES: [[i64; 3]; 8] = [
@@ -79,7 +80,8 @@ pub fn tied_job(random: &mut Random) -> Numbers {
         let size = random.choose(&[2, 5, 12, 30]);
         let middle = [0, 0];
         let shape = random.choose(&SHAPES);
-        let edge = Ground { middle, size }.edge(random, shape);
+        let line = random.once_in(2);
+        let edge = Ground { middle, size }.edge(random, shape, line);
         let strip = Strip::of(&edge, Piece::WHOLE);
         let Some(cell) = some_cell(random, &strip, test) else {
             continue;
@@ -119,7 +121,13 @@ fn some_cell(random: &mut Random, strip: &Strip, test: Test) -> Option<Cell> {
 
 /// The job of one edge whose plate has this cell. Most often the edge is a leaf
 /// at once; all is moved somewhere.
-fn job_around(random: &mut Random, edge: Edge, strip: &Strip, cell: Cell, reach: i32) -> Numbers {
+fn job_around(
+    random: &mut Random,
+    mut edge: Edge,
+    strip: &Strip,
+    cell: Cell,
+    reach: i32,
+) -> Numbers {
     let mut job = [0; clearance::JOB_NUMBERS];
     let [width, height] = strip.extent();
     let leaf_grain = (width.max(height) as i32 + 15) / 16;
@@ -134,9 +142,10 @@ fn job_around(random: &mut Random, edge: Edge, strip: &Strip, cell: Cell, reach:
         let moved = random.between(-far, far);
         let before = random.between(0, (1 << (job[N] - job[M])) - 1) << job[M];
         job[corner] = cell.corner[c] as i32 - before + moved;
-        for point in 0..PLACE / 2 {
-            job[PLACES + 2 * point + c] = edge[2 * point + c] + moved;
+        for number in numbers_mut(&mut edge).iter_mut().skip(c).step_by(2) {
+            *number += moved;
         }
     }
+    lay(&mut job, 0, &edge);
     job
 }

@@ -1,16 +1,13 @@
 //! Grains and reaches at which a comparison is equal or nearly so.
 
-use crate::edges::Edge;
-use crate::numbers::{reference_job, Numbers, COUNT, M, N, PLACE, PLACES, X, Y};
+use crate::numbers::{edge_at, reference_job, Numbers, COUNT, M, N, X, Y};
 use crate::random::Random;
 use clearance_reference::strips::{Piece, Strip, DEEPEST};
 use clearance_reference::{trees, Refusal, GRAIN_LIMIT, REACH_LIMIT};
 
 /// The strip of a random piece of a random edge.
 fn some_strip(random: &mut Random, job: &Numbers, deepest: u32) -> Strip {
-    let place = PLACES + PLACE * random.below(job[COUNT] as usize);
-    let mut edge: Edge = [0; PLACE];
-    edge.copy_from_slice(&job[place..place + PLACE]);
+    let edge = edge_at(job, random.below(job[COUNT] as usize));
     let mut piece = Piece::WHOLE;
     for _ in 0..random.below(deepest as usize + 1) {
         piece = piece

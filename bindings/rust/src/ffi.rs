@@ -6,7 +6,8 @@
 //! null, and no other pointer is. A job is a row of [`JOB_NUMBERS`] numbers: one
 //! is read into a whole row, and of one that is lent with its length those that a
 //! shorter row lacks are taken as 0, and past a longer row's end nothing is
-//! looked at. The number returned is 0 or a refusal's.
+//! looked at. The marks stand last: a row of [`MARKS`](crate::MARKS) numbers or
+//! fewer has cubics alone. The number returned is 0 or a refusal's.
 
 use crate::job::JOB_NUMBERS;
 

@@ -38,7 +38,9 @@ mod nearest;
 mod refusal;
 
 pub use calls::{map, point, read, write};
-pub use job::{Job, EDGES_MOST, JOB_NUMBERS, PLACES, PLACE_NUMBERS};
+pub use job::{
+    Job, CUBIC, EDGES_MOST, JOB_NUMBERS, LINE, LINE_NUMBERS, MARKS, PLACES, PLACE_NUMBERS,
+};
 pub use nearest::Nearest;
 pub use refusal::Refusal;
 

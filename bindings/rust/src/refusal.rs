@@ -21,7 +21,9 @@ pub enum Refusal {
     Form = 1,
     /// There are no edges, or more than 64.
     Edges = 2,
-    /// A number is out of its range, or a place past the edges is not zeros.
+    /// A number is out of its range, an edge's mark is no kind's, one of a
+    /// line's last four numbers is not 0, or a place or a mark past the edges is
+    /// not zeros.
     Range = 3,
     /// The smallest cell is larger than the plate, or less than a 256th of it.
     Cell = 4,

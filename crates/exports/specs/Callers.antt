@@ -2,30 +2,30 @@
 use mathlib.Core.Path.{_≡_, refl, sym, ap, ap₂, _∙_, subst}
 use mathlib.Core.Bool.{Bool, true, false}
 use mathlib.Core.List.{List, [], _∷_, _++_, append-nil}
-use Prim.Native.Nat.{ℕ, zero, suc, _*_, _≤_}
+use Prim.Native.Nat.{ℕ, _*_, _≤_}
 use native.Mathlib.Omega.{arith}
 use lib.Dec.{leb}
 use lib.IntN.{ℤ, pos}
-use lib.ListN.{length, getD, take, drop, length-append, length-drop, length-replicate}
+use lib.ListN.{length, getD, take, drop, length-append, length-drop}
 use lib.Seq.{take-at}
 use borrow.Author.Tests.{le-leb}
 use Rattle.integers.specs.Tests.{le-of}
 use Rattle.model.specs.declared.Job.{Job}
 use Rattle.model.specs.declared.Read.{Read}
-use Rattle.model.specs.Refusals.{edges, range, cell, first, accepted}
-use Rattle.model.specs.Jobs.{coordinate, counted, ranged, celled, judge, zeroJob}
-use Rattle.model.specs.Sheets.{Sheet, lines, broken, joined, edgesAt, jobOf, readSheet, sheetOf}
+use Rattle.model.specs.Refusals.{edges, range, cell, first}
+use Rattle.model.specs.Jobs.{coordinate, counted, ranged, celled}
+use Rattle.model.specs.Sheets.{Sheet, lines, broken, jobOf, readSheet, sheetOf}
 use Rattle.model.specs.Store.{width, forest, nodesOf, storeOf, begins}
-use Rattle.model.specs.Entries.{over, readChecks, readAnswer, read, writeRefusal, write, writeLeaves, mapChecks, mapRefusal, map, mapStore, mapCells, pointChecks, pointRefusal}
-use Rattle.model.specs.Promises.{Whole, Kept, MapHolds, Bounds, wholePoint}
+use Rattle.model.specs.Entries.{over, readChecks, read, writeRefusal, write, writeLeaves, mapChecks, mapRefusal, map, mapStore, mapCells, pointChecks, pointRefusal}
+use Rattle.model.specs.Promises.{Kept, MapHolds, Bounds, wholePoint}
 use Rattle.ranges.specs.Refusals.{all-pass, passed-all, accepted-is}
 use Rattle.ranges.specs.Lowest.{read-by}
 use Rattle.subtrees.specs.Preorder.{all-begun}
 use Rattle.subtrees.specs.Begins.{all-begins}
-use Rattle.sheet_text.specs.Places.{fit-length}
 use Rattle.sheet_text.specs.RoundTrips.{sheet-kept, write-read}
 use Rattle.clearance.specs.Demands as demands
-use Rattle.flat_jobs.specs.FlatJobs.{placesLong, jobFrom, numbersOf}
+use Rattle.clearance.specs.Sheets.{read-whole}
+use Rattle.flat_jobs.specs.FlatJobs.{jobFrom, numbersOf}
 use Rattle.flat_jobs.specs.Rows.{from-whole, row-kept}
 use Rattle.exports.specs.Rows.{readLeaves, bytesLeft, Answered}
 use Rattle.exports.specs.Promises.{ReadNumbers, RowRead, sheetLeft, SheetBack, RowBack, ReadMapPoint}
@@ -43,20 +43,6 @@ checks-four broken = omega arith
 
 pub read-numbers : ReadNumbers
 read-numbers sheet = omega (arith, read-by sheet, checks-four (readSheet sheet))
-
-accepted-whole : (n : ℕ) (j : Job) → Whole j → Whole (accepted n j zeroJob)
-unfolding accepted
-accepted-whole zero j w = w
-accepted-whole (suc n) j w = length-replicate placesLong (pos 0)
-
-answer-whole : (s : Sheet) → Whole (readAnswer s .job)
-unfolding readAnswer
-answer-whole (lines gs) = accepted-whole (judge (jobOf gs)) (jobOf gs) (fit-length placesLong (joined (getD gs edgesAt [])))
-answer-whole broken = length-replicate placesLong (pos 0)
-
-read-whole : (sheet : List ℕ) → Whole (read sheet .job)
-unfolding read
-read-whole sheet = answer-whole (readSheet sheet)
 
 pub row-read : RowRead
 unfolding readLeaves

@@ -1,6 +1,7 @@
 // The library's face for callers in C and Rust: the four entries over numbers, slices and pointers. A job is a row of `flat_jobs::NUMBERS`
-// numbers; of a row that is shorter the missing numbers are 0, and of one that is longer the rest is not looked at. None asks anything of its
-// caller, and a refused call changes nothing. What calls one after the other promise stands in specs/Promises.antt.
+// numbers; of a row that is shorter the missing numbers are 0, so one that ends before its marks is of cubics alone, and of one that is longer
+// the rest is not looked at. None asks anything of its caller, and a refused call changes nothing. What calls one after the other promise
+// stands in specs/Promises.antt.
 use flat_jobs::NUMBERS;
 ghost use mathlib.Core.Path.{_≡_};
 ghost use Prim.Native.Nat.{_<_};

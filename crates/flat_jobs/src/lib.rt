@@ -5,14 +5,18 @@ ghost use Prim.Native.Nat.{_+_, _≤_};
 ghost use lib.IntN.{pos};
 ghost use lib.ListN.{length, getD};
 ghost use lib.Seq.{paste};
-ghost use Rattle.flat_jobs.specs.FlatJobs.{placesLong, countOf, placesFrom, jobFrom, headOf, numbersOf};
+ghost use Rattle.flat_jobs.specs.FlatJobs.{placesAt, placesLong, marksAt, marksLong, rowLong, countOf, stretch, jobFrom, headOf, numbersOf};
 
-// Where the places begin in a row, how many numbers they are, and how long the row is.
+// Where the places and the marks begin in a row, how many numbers they are, and how long the row is.
 pub const PLACES: usize = 7;
 
 const PLACES_LONG: usize = 512;
 
-pub const NUMBERS: usize = PLACES + PLACES_LONG;
+pub const MARKS: usize = PLACES + PLACES_LONG;
+
+const MARKS_LONG: usize = 64;
+
+pub const NUMBERS: usize = MARKS + MARKS_LONG;
 
 fn count_of(z: i32) -> usize
     ensures count { λ r. ⌜ r ≡ countOf z ⌝ }
@@ -34,17 +38,39 @@ fn no_places() -> [i32; PLACES_LONG]
     [0i32; PLACES_LONG]
 }
 
-fn places_of(numbers: &[i32]) -> [i32; PLACES_LONG]
-    ensures places { λ r. ⌜ r ≡ placesFrom (now (numbers .entry)) ⌝ }
+fn no_marks() -> [i32; MARKS_LONG]
+    ensures long { λ r. ⌜ length r ≡ marksLong ⌝ }
 {
-    let mut places = no_places();
+    [0i32; MARKS_LONG]
+}
+
+// `into` becomes the row's numbers from place `at` on.
+fn fill_from(into: &mut [i32], numbers: &[i32], at: usize)
+    requires within { ⌜ at + length (now into) ≤ rowLong ⌝ }
+    ensures filled { λ _. ⌜ now (into .exit) ≡ stretch at (length (now (into .entry))) (now (numbers .entry)) ⌝ }
+{
     let mut i: usize = 0;
-    while i < PLACES_LONG {
-        let v = number_at(numbers, PLACES + i);
-        places[i] = v;
+    while i < into.len() {
+        let v = number_at(numbers, at + i);
+        into[i] = v;
         i += 1;
     }
+}
+
+fn places_of(numbers: &[i32]) -> [i32; PLACES_LONG]
+    ensures places { λ r. ⌜ r ≡ stretch placesAt placesLong (now (numbers .entry)) ⌝ }
+{
+    let mut places = no_places();
+    fill_from(&mut places, numbers, PLACES);
     places
+}
+
+fn marks_of(numbers: &[i32]) -> [i32; MARKS_LONG]
+    ensures marks { λ r. ⌜ r ≡ stretch marksAt marksLong (now (numbers .entry)) ⌝ }
+{
+    let mut marks = no_marks();
+    fill_from(&mut marks, numbers, MARKS);
+    marks
 }
 
 pub fn job_from(numbers: &[i32]) -> Job
@@ -58,6 +84,7 @@ pub fn job_from(numbers: &[i32]) -> Job
     let grain = number_at(numbers, 5);
     let count = count_of(number_at(numbers, 6));
     let places = places_of(numbers);
+    let marks = marks_of(numbers);
     Job {
         x,
         y,
@@ -67,6 +94,7 @@ pub fn job_from(numbers: &[i32]) -> Job
         grain,
         count,
         places,
+        marks,
     }
 }
 
@@ -112,6 +140,8 @@ pub fn put_job(job: Job, numbers: &mut [i32; NUMBERS])
 {
     let head = head_of(job);
     let places = job.places;
+    let marks = job.marks;
     put_from(numbers, 0, &head);
     put_from(numbers, PLACES, &places);
+    put_from(numbers, MARKS, &marks);
 }

@@ -38,7 +38,7 @@ fn ask(job: Job, x: i32, y: i32, store: &[i32], n: usize) {
     show_nearest(near, job, x, y, &store[..k]);
 }
 
-// Points in, on and past the range, and on the outline.
+// Points in, on and past the range, and on the outline. The last numbers of a line's place are zeros, so there the fifth is the origin again.
 fn ask_spots(job: Job, store: &[i32], need: usize) {
     let places = job.places;
     ask(job, 0, 0, store, need);

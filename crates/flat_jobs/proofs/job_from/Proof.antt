@@ -30,6 +30,9 @@ count-of-requires c κs = search needs
 places-of-requires : tie.Need-places-of-requires
 places-of-requires c κs = search needs
 
+marks-of-requires : tie.Need-marks-of-requires
+marks-of-requires c κs = search needs
+
 returns : tie.Need-returns
 returns c = search (needs, steps.job-is)
 
@@ -46,4 +49,5 @@ job-from-spec =
     number-at-requires-7
     count-of-requires
     places-of-requires
+    marks-of-requires
     returns)
