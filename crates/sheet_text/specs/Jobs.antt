@@ -27,7 +27,7 @@ pub natural-small : {lo hi : ℕ} (z : ℤ) → hi < 10000000 → Between (pos l
 unfolding Small
 natural-small z k h = omega (arith, natural z h .most)
 
-zero-is : (z : ℤ) → isZero z ≡ true → z ≡ pos 0
+pub zero-is : (z : ℤ) → isZero z ≡ true → z ≡ pos 0
 unfolding isZero
 zero-is (pos n) h = ap pos (eqb-true n 0 h)
 zero-is (negsuc n) h = no-way h
