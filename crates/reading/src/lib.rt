@@ -6,7 +6,7 @@ use model::Read;
 use scanning::form_at;
 ghost use mathlib.Core.Path.{_≡_};
 ghost use mathlib.Core.Bool.{false};
-ghost use mathlib.Core.List.{[]};
+ghost use mathlib.Core.List.{[], _∷_};
 ghost use Prim.Native.Nat.{_≤_};
 ghost use lib.IntN.{pos};
 ghost use lib.ListN.{length, drop, replicate};
@@ -15,7 +15,7 @@ ghost use Rattle.model.specs.Forms.{readForm};
 ghost use Rattle.model.specs.Sheets.{endForm, longest};
 ghost use Rattle.model.specs.Entries as entries;
 ghost use Rattle.sheet_text.specs.Forms.{marks};
-ghost use Rattle.reading.specs.Progress.{closed, keep, OptionalRead, EdgesRead, HeadSays, jobBy, headBy, refusedBy, answerOf};
+ghost use Rattle.reading.specs.Progress.{closed, keep, OptionalRead, EdgeSays, EdgesRead, HeadSays, jobBy, headBy, refusedBy, answerOf};
 
 // The number of a line that may be left out, and where the next line starts.
 pub struct Optional {
@@ -23,11 +23,20 @@ pub struct Optional {
     pub value: i32,
 }
 
-// The edges of a sheet: how many, the numbers of the first 64, and where the next line starts.
+// An edge's line: its mark, its numbers with zeros past them, and where the next line starts.
+pub struct EdgeLine {
+    pub found: bool,
+    pub next: usize,
+    pub mark: i32,
+    pub values: [i32; 8],
+}
+
+// The edges of a sheet: how many, the numbers and the marks of the first 64, and where the next line starts.
 pub struct Edges {
     pub next: usize,
     pub count: usize,
     pub values: [i32; 512],
+    pub marks: [i32; 64],
 }
 
 // The lines before the edges: their numbers, and where the edges start.
@@ -79,10 +88,16 @@ fn nothing_kept() -> [i32; 512]
     [0i32; 512]
 }
 
+fn no_marks() -> [i32; 64]
+    ensures answer { λ r. ⌜ r ≡ replicate 64 (pos 0) ⌝ }
+{
+    [0i32; 64]
+}
+
 // Puts the numbers of one more edge in place, after `count` edges. 64 edges are kept.
 fn keep_edge(values: &mut [i32; 512], count: usize, line: [i32; 8])
     requires sizes { ⌜ (length (now values) ≡ 512) × (length line ≡ 8) ⌝ }
-    ensures answer { λ _. ⌜ now (values .exit) ≡ keep (now (values .entry)) count line ⌝ }
+    ensures answer { λ _. ⌜ now (values .exit) ≡ keep 8 (now (values .entry)) count line ⌝ }
 {
     if count >= 64 {
         return;
@@ -97,20 +112,57 @@ fn keep_edge(values: &mut [i32; 512], count: usize, line: [i32; 8])
     }
 }
 
-// The edge lines, as many as there are.
+// Puts its mark in place.
+fn keep_mark(marks: &mut [i32; 64], count: usize, mark: i32)
+    requires size { ⌜ length (now marks) ≡ 64 ⌝ }
+    ensures answer { λ _. ⌜ now (marks .exit) ≡ keep 1 (now (marks .entry)) count (mark ∷ []) ⌝ }
+{
+    if count < 64 {
+        marks[count] = mark;
+    }
+}
+
+// An edge's line, a cubic's or, where that is not there, a line's.
+fn edge_at(s: &[u8], at: usize) -> EdgeLine
+    requires start { ⌜ at ≤ length (now s) ⌝ }
+    ensures answer { λ r. ⌜ EdgeSays (now (s .entry)) at r ⌝ }
+{
+    let cubic = form_at(s, at, b"(edge (# #) (# #) (# #) (# #))\n");
+    if cubic.found {
+        let values = cubic.values;
+        return EdgeLine {
+            found: true,
+            next: cubic.next,
+            mark: 0,
+            values,
+        };
+    }
+    let line = form_at(s, at, b"(line (# #) (# #))\n");
+    let values = line.values;
+    EdgeLine {
+        found: line.found,
+        next: line.next,
+        mark: 1,
+        values,
+    }
+}
+
+// The edges' lines, as many as there are.
 fn edges_at(s: &[u8], at: usize) -> Edges
     requires start { ⌜ at ≤ length (now s) ⌝ }
     requires short { ⌜ length (now s) ≤ longest ⌝ }
     ensures answer { λ r. ⌜ EdgesRead (now (s .entry)) at r ⌝ }
 {
     let mut values = nothing_kept();
+    let mut marks = no_marks();
     let mut count: usize = 0;
     let mut i = at;
     while i < s.len() {
-        let line = form_at(s, i, b"(edge (# #) (# #) (# #) (# #))\n");
+        let line = edge_at(s, i);
         if line.found {
             let numbers = line.values;
             keep_edge(&mut values, count, numbers);
+            keep_mark(&mut marks, count, line.mark);
             count += 1;
             i = line.next;
         } else {
@@ -118,6 +170,7 @@ fn edges_at(s: &[u8], at: usize) -> Edges
                 next: i,
                 count,
                 values,
+                marks,
             };
         }
     }
@@ -125,6 +178,7 @@ fn edges_at(s: &[u8], at: usize) -> Edges
         next: i,
         count,
         values,
+        marks,
     }
 }
 
@@ -199,6 +253,7 @@ fn zero_job() -> Job
     ensures answer { λ r. ⌜ r ≡ zeroJob ⌝ }
 {
     let places = nothing_kept();
+    let marks = no_marks();
     Job {
         x: 0,
         y: 0,
@@ -208,6 +263,7 @@ fn zero_job() -> Job
         grain: 0,
         count: 0,
         places,
+        marks,
     }
 }
 
@@ -229,8 +285,8 @@ fn judged(job: Job) -> Read
     refused(refusal)
 }
 
-fn job_by(head: Head, count: usize, places: [i32; 512]) -> Job
-    ensures answer { λ r. ⌜ r ≡ jobBy head count places ⌝ }
+fn job_by(head: Head, count: usize, places: [i32; 512], marks: [i32; 64]) -> Job
+    ensures answer { λ r. ⌜ r ≡ jobBy head count places marks ⌝ }
 {
     Job {
         x: head.x,
@@ -241,6 +297,7 @@ fn job_by(head: Head, count: usize, places: [i32; 512]) -> Job
         grain: head.grain,
         count,
         places,
+        marks,
     }
 }
 
@@ -263,6 +320,7 @@ pub fn read(sheet: &[u8]) -> Read
     }
     let count = edges.count;
     let places = edges.values;
-    let job = job_by(head, count, places);
+    let marks = edges.marks;
+    let job = job_by(head, count, places, marks);
     judged(job)
 }

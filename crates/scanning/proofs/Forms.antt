@@ -2,22 +2,24 @@
 use mathlib.Core.Path.{_≡_, refl, sym, ap, ap₂, _∙_}
 use mathlib.Core.Bool.{Bool, true, false, cond}
 use mathlib.Core.List.{List, [], _∷_, _++_}
-use Prim.Native.Nat.{ℕ, suc, _+_, _*_, _^_, _≤_, _<_}
+use Prim.Native.Nat.{ℕ, zero, suc, _+_, _*_, _^_, _≤_, _<_}
 use native.Mathlib.Numerals.{add-one}
 use native.Mathlib.Omega.{arith}
 use mir.Syntax.{w32, w64}
 use mir.Val.{Fits, SFits, toZ, ofZ}
 use mir.ValLaws.{toZ-ofZ}
 use lib.Dec.{eqb}
-use lib.IntN.{ℤ}
-use lib.ListN.{length, getD, take, drop, set, length-set, drop-of-length-le}
-use lib.Seq.{drop-cons, take-suc-set}
+use lib.IntN.{ℤ, pos}
+use lib.ListN.{length, getD, take, drop, set, replicate, length-set, drop-of-length-le}
+use lib.Seq.{drop-cons, take-suc-set, getD-set-other}
 use borrow.Author.Tests.{eq-eqb, ne-eqb}
 use Rattle.model.specs.Bytes.{Got, got, none}
 use Rattle.model.specs.Numbers.{number}
 use Rattle.model.specs.Forms.{byte, readForm}
+use Rattle.model.specs.Sheets.{fit}
 use Rattle.sheet_text.specs.Tests.{no}
 use Rattle.sheet_text.specs.Forms.{numberThen, byteThen, marks, byte-same, byte-other}
+use Rattle.sheet_text.specs.Places.{fit-kept}
 use Rattle.scanning.specs.Scanned.{byteOf}
 use Rattle.scanning.proofs.Numbers.{drop-next, byte-some}
 
@@ -117,3 +119,21 @@ at-end form s i j count values w inv left h =
     let d : drop j form ≡ [] = drop-of-length-le form h in
     let c : marks form ≡ count = omega (arith, ap marks d, (let z : marks [] ≡ 0 = unfold marks in refl in z)) in
     ap (λ k. got (take k values) (drop i s)) c ∙ sym (inv ∙ ap (λ u. readForm u (take count values) (drop i s)) d)
+
+-- ---- the values past the numbers are zeros
+abbrev pub Spare : ℕ → List ℤ → Type 0
+Spare count values = (k : ℕ) → count ≤ k → getD values k (pos 0) ≡ pos 0
+
+pub all-spare : (n count : ℕ) → Spare count (replicate n (pos 0))
+all-spare zero count k h = refl
+all-spare (suc n) count zero h = refl
+all-spare (suc n) count (suc k) h = all-spare n 0 k (omega arith)
+
+pub still-spare : (values : List ℤ) (count : ℕ) (v : ℤ) → Spare count values → Spare (count + 1) (set values count v)
+still-spare values count v z k h = getD-set-other values count k v (pos 0) (λ e. omega arith) ∙ z k (omega arith)
+
+pub spare-end : (form : List ℕ) (j count : ℕ) (values : List ℤ) → Spare count values → count + marks (drop j form) ≡ marks form → length values ≡ 8 → fit 8 (take (marks form) values) ≡ values
+spare-end form j count values z left n = fit-kept 8 (marks form) values n (λ k h. z k (omega arith))
+
+pub none-spare : (k : ℕ) → fit 8 (take k (replicate 8 (pos 0))) ≡ replicate 8 (pos 0)
+none-spare k = fit-kept 8 k (replicate 8 (pos 0)) refl (all-spare 8 k)

@@ -3,9 +3,10 @@ ghost use mathlib.Core.Path.{_≡_};
 ghost use mathlib.Core.List.{[]};
 ghost use Prim.Native.Nat.{_≤_, _<_};
 ghost use lib.IntN.{pos, negℤ};
-ghost use lib.ListN.{length, drop};
+ghost use lib.ListN.{length, take, drop};
 ghost use Rattle.model.specs.Numbers.{natural, number};
 ghost use Rattle.model.specs.Forms.{readForm};
+ghost use Rattle.model.specs.Sheets.{fit};
 ghost use Rattle.sheet_text.specs.Forms.{marks};
 ghost use Rattle.scanning.specs.Scanned.{byteOf, digitOf, noNatural, naturalGot, noNumber, numberGot, noLine, lineGot};
 
@@ -21,7 +22,7 @@ pub struct Number {
     pub next: usize,
 }
 
-// What a form's text holds: its numbers, in order.
+// What a form's text holds: its numbers, in order, and zeros past them.
 pub struct Line {
     pub found: bool,
     pub next: usize,
@@ -176,6 +177,7 @@ pub fn form_at(s: &[u8], at: usize, form: &[u8]) -> Line
     requires few { ⌜ marks (now form) ≤ 8 ⌝ }
     ensures answer { λ r. ⌜ lineGot (now (form .entry)) (now (s .entry)) r ≡ readForm (now (form .entry)) [] (drop at (now (s .entry))) ⌝ }
     ensures within { λ r. ⌜ (r .next ≤ length (now (s .entry))) × (length (r .values) ≡ 8) ⌝ }
+    ensures zeros { λ r. ⌜ fit 8 (take (marks (now (form .entry))) (r .values)) ≡ r .values ⌝ }
 {
     let mut values = [0i32; 8];
     let mut count: usize = 0;

@@ -9,7 +9,7 @@ use lib.IntN.{ℤ, pos, negsuc}
 use lib.ListN.{length, replicate, length-append}
 use Rattle.model.specs.declared.Job.{Job}
 use Rattle.model.specs.Refusals.{space}
-use Rattle.model.specs.Jobs.{between, coordinate, isZero, placed, counted, ranged, celled, own, judge}
+use Rattle.model.specs.Jobs.{between, coordinate, isZero, placed, kind, marked, counted, ranged, celled, own, judge}
 use Rattle.model.specs.Numbers.{decimal, text}
 use Rattle.model.specs.Forms.{writeForm}
 use Rattle.model.specs.Layouts.{writeLine, writeLines, writeAll}
@@ -68,20 +68,20 @@ module _ (j : Job) (ok : judge j ≡ 0) where
   grain-most = stated-within grainForm defaultGrain (j .grain) 15 (omega (arith, grain-line (j .grain), range-short 5 1 100000 (j .grain) (omega arith) (lit< tt) (legal j ok .in-range .grain-in)))
 
   pub sheet-most : 8 * j .count ≤ length (j .places) → length (sheetOf j) ≤ room
-  sheet-most h = rw (sheet-as-code j h) (unfold codeText in simp length-append (omega (arith, head-most, grain-most, edges-long (j .count) (j .places), end-long, legal j ok .few)))
+  sheet-most h = rw (sheet-as-code j h) (unfold codeText in simp length-append (omega (arith, head-most, grain-most, edges-long (j .count) (j .marks) (j .places), end-long, legal j ok .few)))
 
 pub sheet-room : SheetRoom
 unfolding writeRefusal judge
 sheet-room j out w h e =
     let t = tells 6 (own j []) space (leb (length (sheetOf j)) (length out)) [] refl e in
     let l = leb-false (length (sheetOf j)) (length out) (t .1) in
-    let m = sheet-most j (t .0) (omega (arith, legal j (t .0) .few)) in
+    let m = sheet-most j (t .0) (omega (arith, w .0, legal j (t .0) .few)) in
     absurd (omega arith)
 
 -- ---- each number of it as long as its range allows
 abbrev longest : Job
-longest = record { x = negsuc 999999; y = negsuc 999999; n = pos 20; m = pos 12; reach = pos 1000000; grain = pos 100000; count = 64; places = replicate 512 (negsuc 999999) }
+longest = record { x = negsuc 999999; y = negsuc 999999; n = pos 20; m = pos 12; reach = pos 1000000; grain = pos 100000; count = 64; places = replicate 512 (negsuc 999999); marks = replicate 64 (pos 0) }
 
 pub sheet-fills : SheetFills
-unfolding judge counted ranged coordinate between placed isZero celled sheetOf layout tailLayout jobForm plateForm cellForm reachForm grainForm edgeForm endForm writeAll writeLines writeLine writeForm text decimal stated same edgeLines
-sheet-fills = (longest, refl, refl, refl)
+unfolding judge counted ranged coordinate between placed isZero kind marked celled sheetOf layout tailLayout jobForm plateForm cellForm reachForm grainForm edgeForm endForm writeAll writeLines writeLine writeForm text decimal stated same edgeLines
+sheet-fills = (longest, (refl, refl), refl, refl)

@@ -1,7 +1,7 @@
 -- The promises on the sheet: a legal job's sheet reads back as that job (`job-kept`), an accepted sheet keeps its bytes when read and
 -- written, but for a line that states the default grain (`sheet-kept`), and what was written reads back (`write-read`). Assumes nothing.
 use mathlib.Core.Path.{_≡_, refl, sym, ap, ap₂, _∙_, subst}
-use mathlib.Core.Bool.{true}
+use mathlib.Core.Bool.{Bool, true, false}
 use mathlib.Core.Logic.{_⊎_, inl, inr}
 use mathlib.Core.List.{List, [], _∷_, _++_, append-assoc}
 use Prim.Native.Nat.{ℕ, zero, suc, _+_, _*_, _-_, _≤_}
@@ -19,19 +19,19 @@ use Rattle.model.specs.Forms.{writeForm}
 use Rattle.model.specs.Layouts.{section, Lines, plain, writeLines, writeAll}
 use Rattle.model.specs.Refusals.{check, space, accepted}
 use Rattle.model.specs.Jobs.{own, judge, zeroJob}
-use Rattle.model.specs.Sheets.{jobForm, plateForm, cellForm, reachForm, grainForm, edgeForm, endForm, longest, tailLayout, layout, jobAt, plateAt, cellAt, reachAt, grainAt, edgesAt, endAt, defaultGrain, stated, edgeLines, linesOf, sheetOf, joined, fit, numberAt, jobOf, Sheet, lines, broken, readSheet}
+use Rattle.model.specs.Sheets.{jobForm, plateForm, cellForm, reachForm, grainForm, edgeForm, lineForm, endForm, longest, tailLayout, layout, jobAt, plateAt, cellAt, reachAt, grainAt, edgesAt, endAt, defaultGrain, stated, edgeLines, linesOf, sheetOf, joined, fit, marksOf, placesOf, numberAt, jobOf, Sheet, lines, broken, readSheet}
 use Rattle.model.specs.Entries.{readAnswer, read, writeRefusal, write, writeLeaves}
 use Rattle.ranges.specs.Refusals.{each-passed, accepted-is}
 use Rattle.ranges.specs.Legal.{Legal, legal}
-use Rattle.model.specs.Promises.{JobKept, SheetKept, WriteRead, defaultLine, Lacks, Kept, readAs}
+use Rattle.model.specs.Promises.{JobKept, SheetKept, WriteRead, Whole, defaultLine, Lacks, Kept, readAs}
 use Rattle.sheet_text.specs.Numbers.{Small, number-text}
 use Rattle.sheet_text.specs.Forms.{marks, AllSmall, nil-small, cons-small}
 use Rattle.sheet_text.specs.Layouts.{AllLines, FitsSection, FitsAll, fits-long, fits-at, around, one-fits}
-use Rattle.sheet_text.specs.Letters.{tally, tally-append, after, after-first, form-tally, lacked, lacked-by, lacked-but, others-lack}
+use Rattle.sheet_text.specs.Letters.{tally, ends-in, tally-append, tally-least, after, after-front, form-tally, lacked, lacked-by, lacked-but, others-lack}
 use Rattle.sheet_text.specs.Sheets.{sheet-text, text-sheet}
 use Rattle.sheet_text.specs.Optional.{Stated, stated-cases, stated-out, stated-back, stated-fits, none-or-one}
-use Rattle.sheet_text.specs.Jobs.{head-small, edges-small, placed-kept}
-use Rattle.sheet_text.specs.Places.{edges-count, edges-fit, edges-joined, edges-back, joined-long, fit-is, spread, line-back}
+use Rattle.sheet_text.specs.Jobs.{head-small, edges-small, placed-past, marked-past}
+use Rattle.sheet_text.specs.Places.{edgeForms, edges-count, edges-fit, edges-places, edges-marks, edges-back, places-long, marks-long, fit-is, fit-kept, spread, line-back}
 use Rattle.sheet_text.specs.Code.{one-line, sheet-long}
 
 -- ---- the numbers of each form
@@ -82,16 +82,16 @@ legal-fits j l h = let s = head-small j l in (
   ),
 )
   where
-    edges-section : (j : Job) → Legal j → 8 * j .count ≤ length (j .places) → FitsSection (section (edgeForm ∷ []) 0 longest) (edgeLines (j .count) (j .places))
+    edges-section : (j : Job) → Legal j → 8 * j .count ≤ length (j .places) → FitsSection (section edgeForms 0 longest) (edgeLines (j .count) (j .marks) (j .places))
     edges-section j l h = (
       omega arith,
-      omega (arith, edges-count (j .count) (j .places), l .few),
-      edges-fit (j .count) (j .places) (edges-small j l) h,
+      omega (arith, edges-count (j .count) (j .marks) (j .places), l .few),
+      edges-fit (j .count) (j .marks) (j .places) (edges-small j l) h,
     )
 
-job-back : (j : Job) → length (j .places) ≡ 512 → Legal j → jobOf (linesOf j) ≡ j
+job-back : (j : Job) → Whole j → Legal j → jobOf (linesOf j) ≡ j
 unfolding joined
-job-back j n l =
+job-back j w l =
     λ i. record {
       x = j .x;
       y = j .y;
@@ -99,12 +99,20 @@ job-back j n l =
       m = j .m;
       reach = j .reach;
       grain = stated-back defaultGrain (j .grain) i;
-      count = edges-count (j .count) (j .places) i;
-      places = all i;
+      count = edges-count (j .count) (j .marks) (j .places) i;
+      places = places-back i;
+      marks = marks-back i;
     }
   where
-    all : fit 512 (joined (edgeLines (j .count) (j .places))) ≡ j .places
-    all = ap (fit 512) (edges-joined (j .count) (j .places)) ∙ ap (λ u. fit u (take (8 * j .count) (j .places))) (sym n) ∙ placed-kept (8 * j .count) (j .places) (l .in-range .places-in)
+    places-back : fit 512 (placesOf (edgeLines (j .count) (j .marks) (j .places))) ≡ j .places
+    places-back =
+        ap (fit 512) (edges-places (j .count) (j .marks) (j .places) (l .in-range .marks-in) (omega (arith, w .1, l .few)) (omega (arith, w .0, l .few)))
+        ∙ fit-kept 512 (8 * j .count) (j .places) (w .0) (placed-past (8 * j .count) (j .places) (l .in-range .places-in))
+
+    marks-back : fit 64 (marksOf (edgeLines (j .count) (j .marks) (j .places))) ≡ j .marks
+    marks-back =
+        ap (fit 64) (edges-marks (j .count) (j .marks) (j .places) (l .in-range .marks-in) (omega (arith, w .1, l .few)) (omega (arith, w .0, l .few)))
+        ∙ fit-kept 64 (j .count) (j .marks) (w .1) (marked-past (j .count) (j .marks) (j .places) (l .in-range .marks-in))
 
 abbrev answer-of : Job → Read
 answer-of j = record { refusal = judge j; job = accepted (judge j) j zeroJob }
@@ -116,19 +124,21 @@ accepted-answer j (suc k) h = absurd (omega arith)
 
 pub job-kept : JobKept
 unfolding read readAnswer
-job-kept j n h =
+job-kept j w h =
     let l = legal j h in
-    let m : 8 * j .count ≤ length (j .places) = omega (arith, l .few) in
+    let m : 8 * j .count ≤ length (j .places) = omega (arith, w .0, l .few) in
     ap readAnswer (kept-sheet j l m)
-    ∙ ap answer-of (job-back j n l)
+    ∙ ap answer-of (job-back j w l)
     ∙ accepted-answer j (judge j) h
   where
     kept-sheet : (j : Job) → Legal j → 8 * j .count ≤ length (j .places) → readSheet (sheetOf j) ≡ lines (linesOf j)
     kept-sheet j l m = let s = sheet-long j m (l .few) in unfold sheetOf in sheet-text (linesOf j) (legal-fits j l m) (omega arith)
 
 -- ---- an accepted sheet, read and written
-edges-again : (es : Lines) → AllLines (edgeForm ∷ []) es → length es ≤ 64 → edgeLines (length es) (fit 512 (joined es)) ≡ es
-edges-again es f l = ap (edgeLines (length es)) (fit-is 512 (joined es) (omega (arith, joined-long es f))) ∙ edges-back es (replicate (512 - length (joined es)) (pos 0)) f
+edges-again : (es : Lines) → AllLines edgeForms es → length es ≤ 64 → edgeLines (length es) (fit 64 (marksOf es)) (fit 512 (placesOf es)) ≡ es
+edges-again es f l =
+    ap₂ (edgeLines (length es)) (fit-is 64 (marksOf es) (omega (arith, marks-long es))) (fit-is 512 (placesOf es) (omega (arith, places-long es)))
+    ∙ edges-back es (replicate (64 - length (marksOf es)) (pos 0)) (replicate (512 - length (placesOf es)) (pos 0)) f
 
 -- the lines of the job that was read are the sheet's, but for the grain's
 lines-again : (gs : List Lines) → FitsAll layout gs → length (getD gs edgesAt []) ≤ 64 → linesOf (jobOf gs) ≡ set gs grainAt (stated defaultGrain (numberAt gs grainAt 0 defaultGrain))
@@ -147,54 +157,57 @@ grain-ten : writeForm grainForm (defaultGrain ∷ []) ≡ defaultLine
 unfolding writeForm grainForm text decimal
 grain-ten = refl
 
--- ---- where a grain line stands: its n is the only one of a sheet
-abbrev grainLetter : ℕ
-grainLetter = 110
+-- ---- where a grain line stands: its g and r are the only ones side by side in a sheet
+abbrev g : ℕ
+g = 103
 
-grain-alone : lacked-but grainLetter grainAt layout ≡ true
-unfolding lacked-but lacked-by lacked tally layout tailLayout jobForm plateForm cellForm reachForm edgeForm endForm
+abbrev r : ℕ
+r = 114
+
+abbrev grs : List ℕ → ℕ
+grs s = tally g r false s
+
+grain-alone : lacked-but g r grainAt layout ≡ true
+unfolding lacked-but lacked-by lacked tally ends-in layout tailLayout jobForm plateForm cellForm reachForm edgeForm lineForm endForm
 grain-alone = refl
 
-grain-tally : (v : ℤ) → tally grainLetter (writeForm grainForm (v ∷ [])) ≡ 1
-grain-tally v = form-tally grainLetter (lit< tt) grainForm (v ∷ []) ∙ (unfold tally grainForm in refl)
+-- whatever stands before it
+grain-tally : (t : Bool) (v : ℤ) (back : List ℕ) → tally g r t (writeForm grainForm (v ∷ []) ++ back) ≡ suc (grs back)
+grain-tally t v back = form-tally g r (lit< tt) (lit< tt) grainForm (v ∷ []) t back ∙ here
+  where
+    here : tally g r t (grainForm ++ back) ≡ suc (grs back)
+    here = unfold tally grainForm in omega arith
+
+line-tally : (u : List ℕ) (v : ℤ) (w : List ℕ) → grs (u ++ (writeForm grainForm (v ∷ []) ++ w)) ≡ grs u + suc (grs w)
+line-tally u v w = tally-append g r false u (writeForm grainForm (v ∷ []) ++ w) ∙ ap (λ k. grs u + k) (grain-tally (ends-in g false u) v w)
 
 -- the number behind it is the grain
-grain-found : (v : ℤ) (front back : List ℕ) → Small v → tally grainLetter front ≡ 0 → number (drop 1 (after grainLetter (front ++ (writeForm grainForm (v ∷ []) ++ back)))) ≡ got v (41 ∷ 10 ∷ back)
-unfolding writeForm grainForm
+grain-found : (v : ℤ) (front back : List ℕ) → Small v → grs front ≡ 0 → number (drop 4 (after g r false (front ++ (writeForm grainForm (v ∷ []) ++ back)))) ≡ got v (41 ∷ 10 ∷ back)
+unfolding writeForm grainForm after
 grain-found v front back s h =
-    ap (λ u. number (drop 1 (after grainLetter u))) (sym (append-assoc front (bytes "(grai") (grainLetter ∷ 32 ∷ ((text v ++ (41 ∷ 10 ∷ [])) ++ back))))
-    ∙ ap (λ u. number (drop 1 u)) (after-first grainLetter (front ++ bytes "(grai") (32 ∷ ((text v ++ (41 ∷ 10 ∷ [])) ++ back)) (tally-append grainLetter front (bytes "(grai") ∙ omega (arith, h, none-yet)))
+    ap (λ u. number (drop 4 u)) (after-front g r false front (bytes "(grain " ++ ((text v ++ (41 ∷ 10 ∷ [])) ++ back)) h)
     ∙ ap number (append-assoc (text v) (41 ∷ 10 ∷ []) back)
     ∙ number-text v 41 (10 ∷ back) s (unfold digit in refl)
-  where
-    none-yet : tally grainLetter (bytes "(grai") ≡ 0
-    none-yet = unfold tally in refl
 
-line-tally : (u w : List ℕ) → tally grainLetter (u ++ (defaultLine ++ w)) ≡ tally grainLetter u + suc (tally grainLetter w)
-line-tally u w =
-    tally-append grainLetter u (defaultLine ++ w)
-    ∙ ap (λ k. tally grainLetter u + k) (tally-append grainLetter defaultLine w ∙ ap (λ k. k + tally grainLetter w) (ap (tally grainLetter) (sym grain-ten) ∙ grain-tally defaultGrain))
-    ∙ omega arith
+-- a text that has the two nowhere else holds the default line only as its grain line
+module _ (front back : List ℕ) (n : grs (front ++ back) ≡ 0) where
+  front-none : grs front ≡ 0
+  front-none = omega (arith, n, tally-append g r false front back)
 
--- a text that has the letter nowhere else holds the default line only as its grain line
-module _ (front back : List ℕ) (f : tally grainLetter front ≡ 0) (b : tally grainLetter back ≡ 0) where
+  back-none : grs back ≡ 0
+  back-none = omega (arith, n, tally-append g r false front back, tally-least g r (ends-in g false front) back)
+
   no-line : Lacks (front ++ back) defaultLine
-  no-line u w e = absurd (omega (arith, ap (tally grainLetter) e, tally-append grainLetter front back, line-tally u w, f, b))
+  no-line u w e = absurd (omega (arith, n, ap grs (e ∙ ap (λ t. u ++ (t ++ w)) (sym grain-ten)), line-tally u defaultGrain w))
 
   other-line : (v : ℤ) → Small v → (v ≡ defaultGrain → ⊥) → Lacks (front ++ (writeForm grainForm (v ∷ []) ++ back)) defaultLine
-  other-line v s h u w e = h (same-number (sym (grain-found v front back s f) ∙ ap (λ t. number (drop 1 (after grainLetter t))) (e ∙ ap (λ t. u ++ (t ++ w)) (sym grain-ten)) ∙ grain-found defaultGrain u w ten-small before))
+  other-line v s h u w e = h (same-number (sym (grain-found v front back s front-none) ∙ ap (λ t. number (drop 4 (after g r false t))) there ∙ grain-found defaultGrain u w ten-small before))
     where
-      before : tally grainLetter u ≡ 0
-      before = omega (
-        arith,
-        ap (tally grainLetter) e,
-        tally-append grainLetter front (writeForm grainForm (v ∷ []) ++ back),
-        tally-append grainLetter (writeForm grainForm (v ∷ [])) back,
-        grain-tally v,
-        line-tally u w,
-        f,
-        b,
-      )
+      there : front ++ (writeForm grainForm (v ∷ []) ++ back) ≡ u ++ (writeForm grainForm (defaultGrain ∷ []) ++ w)
+      there = e ∙ ap (λ t. u ++ (t ++ w)) (sym grain-ten)
+
+      before : grs u ≡ 0
+      before = omega (arith, ap grs there, line-tally front v back, line-tally u defaultGrain w, front-none, back-none)
 
       ten-small : Small defaultGrain
       ten-small = unfold Small in lit< tt
@@ -224,10 +237,10 @@ kept-lines : (s : List ℕ) (gs : List Lines) → s ≡ writeAll layout gs → F
 unfolding sheetOf layout tailLayout writeLines
 kept-lines s gs q f l =
     let o = around layout gs grainAt (omega arith) (omega (arith, fits-long layout gs f)) in
-    let z : tally grainLetter (o .0) + tally grainLetter (o .1) ≡ 0 = sym (tally-append grainLetter (o .0) (o .1)) ∙ sym (ap (tally grainLetter) (o .2 [])) ∙ others-lack grainLetter (lit< tt) grainAt layout gs grain-alone in
+    let z : grs (o .0 ++ o .1) ≡ 0 = sym (ap grs (o .2 [])) ∙ others-lack g r (lit< tt) (lit< tt) grainAt layout gs grain-alone in
     let p : s ≡ o .0 ++ (writeLines (grainForm ∷ []) (getD gs grainAt []) ++ o .1) = q ∙ ap (writeAll layout) (sym (set-getD gs grainAt [])) ∙ o .2 (getD gs grainAt []) in
     let t = ap (writeAll layout) (lines-again gs f l) ∙ o .2 (stated defaultGrain (numberAt gs grainAt 0 defaultGrain)) in
-    let k = again (o .0) (o .1) (omega (arith, z)) (omega (arith, z)) (getD gs grainAt []) (none-or-one grainForm grain-marks (getD gs grainAt []) (fits-at layout gs grainAt f (omega arith))) in
+    let k = again (o .0) (o .1) z (getD gs grainAt []) (none-or-one grainForm grain-marks (getD gs grainAt []) (fits-at layout gs grainAt f (omega arith))) in
     subst (λ u. Kept u (writeAll layout (linesOf (jobOf gs)))) (sym p) (subst (Kept (o .0 ++ (writeLines (grainForm ∷ []) (getD gs grainAt []) ++ o .1))) (sym t) k)
 
 pub sheet-kept : SheetKept

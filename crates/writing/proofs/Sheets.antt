@@ -46,6 +46,9 @@ module _ (j : Job) (ok : judge j ≡ 0) where
   pub places-there : length (j .places) ≡ 512 → 8 * j .count ≤ length (j .places)
   places-there n = omega (arith, legal j ok .few)
 
+  pub marks-there : length (j .marks) ≡ 64 → j .count ≤ length (j .marks)
+  marks-there n = omega (arith, legal j ok .few)
+
   grain-back : toZ w32 (ofZ w32 (j .grain)) ≡ j .grain
   grain-back = toZ-ofZ w32 (j .grain) (small-fits (j .grain) (head-small j (legal j ok) .grain-small))
 
@@ -76,15 +79,15 @@ module _ (j : Job) (ok : judge j ≡ 0) where
   unfolding writeForm endForm
   end-line hs = refl
 
-  pub sheet-put : (a b c d f : List ℕ) (i k m n : ℕ) (hs : List ℤ) → Put a b 0 i (headText hs) → Put b c i k (writeLines (grainForm ∷ []) (stated defaultGrain (toZ w32 (ofZ w32 (j .grain))))) → Put c d k m (edgesText (j .count) (j .places)) → Put d f m n (writeForm endForm hs) → hs ≡ headOf j → length (j .places) ≡ 512 → Put a f 0 n (sheetOf j)
+  pub sheet-put : (a b c d f : List ℕ) (i k m n : ℕ) (hs : List ℤ) → Put a b 0 i (headText hs) → Put b c i k (writeLines (grainForm ∷ []) (stated defaultGrain (toZ w32 (ofZ w32 (j .grain))))) → Put c d k m (edgesText (j .count) (j .marks) (j .places)) → Put d f m n (writeForm endForm hs) → hs ≡ headOf j → length (j .places) ≡ 512 → Put a f 0 n (sheetOf j)
   unfolding codeText
   sheet-put a b c d f i k m n hs p q r s e x =
       subst (Put a f 0 n)
-      (ap₂ (λ y z. headText y ++ (writeLines (grainForm ∷ []) (stated defaultGrain z) ++ (edgesText (j .count) (j .places) ++ writeForm endForm []))) e grain-back
+      (ap₂ (λ y z. headText y ++ (writeLines (grainForm ∷ []) (stated defaultGrain z) ++ (edgesText (j .count) (j .marks) (j .places) ++ writeForm endForm []))) e grain-back
       ∙ sym (sheet-as-code j (places-there x)))
       (put-then a b f 0 i n (headText hs) _ p
       (put-then b c f i k n (writeLines (grainForm ∷ []) (stated defaultGrain (toZ w32 (ofZ w32 (j .grain))))) _ q
-      (put-then c d f k m n (edgesText (j .count) (j .places)) (writeForm endForm []) r (subst (Put d f m n) (end-line hs) s))))
+      (put-then c d f k m n (edgesText (j .count) (j .marks) (j .places)) (writeForm endForm []) r (subst (Put d f m n) (end-line hs) s))))
 
 -- ---- write
 module _ (j : Job) (out : List ℕ) where

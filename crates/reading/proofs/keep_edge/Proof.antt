@@ -4,7 +4,7 @@ use Prim.Native.Nat.{_-_, _*_, _≤_, _<_}
 use native.Mathlib.Omega.{arith}
 use lib.Seq.{paste-zero, paste}
 use borrow.Author.Needs.{needs}
-use Rattle.reading.proofs.EdgeLines as edges
+use Rattle.reading.proofs.Kept as kept
 use Rattle.reading.proofs.keep_edge.Statement.{statement}
 use Rattle.reading.proofs.keep_edge.Tie as tie
 
@@ -15,7 +15,7 @@ abbrev μ-loop : tie.MeasureT-loop
 μ-loop values₀ count line base j₀ values j = 8 - j
 
 returns : tie.Need-returns Inv-loop μ-loop
-returns c = let h : 64 ≤ c .before .args .count = omega arith in search (needs, edges.all-kept)
+returns c = let h : 64 ≤ c .before .args .count = omega arith in search (needs, kept.all-kept)
 
 mul-base : tie.Need-mul-base Inv-loop μ-loop
 mul-base c = omega arith
@@ -45,10 +45,10 @@ loop-less : tie.Need-loop-less Inv-loop μ-loop
 loop-less c = omega arith
 
 loop-again : tie.Need-loop-again Inv-loop μ-loop
-loop-again c = let h : c .before .before .before .before .args .count < 64 = omega arith in (search (needs, edges.kept-more), omega arith)
+loop-again c = let h : c .before .before .before .before .args .count < 64 = omega arith in (search (needs, kept.kept-more), omega arith)
 
 returns-2 : tie.Need-returns-2 Inv-loop μ-loop
-returns-2 c = let h : c .before .before .before .args .count < 64 = omega arith in search (needs, edges.kept-now)
+returns-2 c = let h : c .before .before .before .args .count < 64 = omega arith in search (needs, kept.kept-now)
 
 pub keep-edge-spec : {M : Type 1} → statement M
 keep-edge-spec =

@@ -7,8 +7,11 @@ use Rattle.reading.proofs.zero_job.Tie as tie
 nothing-kept-requires : tie.Need-nothing-kept-requires
 nothing-kept-requires c κs = search needs
 
+no-marks-requires : tie.Need-no-marks-requires
+no-marks-requires c κs = search needs
+
 returns : tie.Need-returns
-returns c = whole.zero-job (c .nothing-kept .result) (c .nothing-kept .ensures)
+returns c = search (needs, whole.zero-job)
 
 pub zero-job-spec : {M : Type 1} → statement M
-zero-job-spec = tie.close (tie.spec nothing-kept-requires returns)
+zero-job-spec = tie.close (tie.spec nothing-kept-requires no-marks-requires returns)

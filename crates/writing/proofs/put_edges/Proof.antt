@@ -2,30 +2,30 @@
 use Prim.Native.Nat.{_-_}
 use native.Mathlib.Omega.{arith}
 use borrow.Author.Needs.{needs}
-use Rattle.model.specs.Sheets.{edgeForm}
-use Rattle.sheet_text.specs.Forms.{marks, weight}
 use Rattle.writing.proofs.Lines as lines
 use Rattle.writing.proofs.put_edges.Statement.{statement}
 use Rattle.writing.proofs.put_edges.Tie as tie
 
 abbrev Inv-loop : tie.InvT-loop
-Inv-loop out₀ at count values i₀ e₀ t7 out i e = lines.Going values count out₀ at out i e
+Inv-loop out₀ at count marks values i₀ e₀ out i e = lines.Going marks values count out₀ at out i e
 
 abbrev μ-loop : tie.MeasureT-loop
-μ-loop out₀ at count values i₀ e₀ t7 out i e = count - e
+μ-loop out₀ at count marks values i₀ e₀ out i e = count - e
 
 loop-holds : tie.Need-loop-holds Inv-loop μ-loop
 loop-holds c = search (needs, lines.starts)
 
-slice-aggregate-put-form : tie.Need-slice-aggregate-put-form Inv-loop μ-loop
-slice-aggregate-put-form c = search needs
+mul-mark : tie.Need-mul-mark Inv-loop μ-loop
+mul-mark c = omega arith
 
-mul-put-form : tie.Need-mul-put-form Inv-loop μ-loop
-mul-put-form c = omega arith
+shared-slice-copy-out-mark : tie.Need-shared-slice-copy-out-mark Inv-loop μ-loop
+shared-slice-copy-out-mark c = omega arith
 
-put-form-requires : tie.Need-put-form-requires Inv-loop μ-loop
-unfolding marks weight
-put-form-requires c κs = (search (needs, lines.edge-space), (omega arith, search needs))
+mul-put-edge : tie.Need-mul-put-edge Inv-loop μ-loop
+mul-put-edge c = omega arith
+
+put-edge-requires : tie.Need-put-edge-requires Inv-loop μ-loop
+put-edge-requires c κs = (search (needs, lines.edge-space), (omega arith, search needs))
 
 add-e : tie.Need-add-e Inv-loop μ-loop
 add-e c = omega arith
@@ -34,7 +34,6 @@ loop-less : tie.Need-loop-less Inv-loop μ-loop
 loop-less c = omega arith
 
 loop-again : tie.Need-loop-again Inv-loop μ-loop
-unfolding edgeForm
 loop-again c = search (needs, lines.edge-on)
 
 same-length : tie.Need-same-length Inv-loop μ-loop
@@ -50,9 +49,10 @@ put-edges-spec =
     Inv-loop
     μ-loop
     loop-holds
-    slice-aggregate-put-form
-    mul-put-form
-    put-form-requires
+    mul-mark
+    shared-slice-copy-out-mark
+    mul-put-edge
+    put-edge-requires
     add-e
     loop-less
     loop-again

@@ -29,9 +29,14 @@ put-optional-requires c κs = (omega arith, (refl, search (needs, sheets.grain-r
 slice-aggregate-put-edges : tie.Need-slice-aggregate-put-edges
 slice-aggregate-put-edges c = search needs
 
+slice-aggregate-put-edges-2 : tie.Need-slice-aggregate-put-edges-2
+slice-aggregate-put-edges-2 c = search needs
+
 put-edges-requires : tie.Need-put-edges-requires
 unfolding grainForm
-put-edges-requires c κs = (search (needs, sheets.edges-space), (search (needs, sheets.places-there), search (needs, sheets.places-ready)))
+put-edges-requires c κs =
+    let t = c .before .before .before .before .before .before .before .before .struct-told .given .1 .1 .1 .1 .1 .1 .1 .1 .0 in
+    (search (needs, sheets.edges-space), ((search (needs, sheets.marks-there, t), search (needs, sheets.places-there)), search (needs, sheets.places-ready)))
 
 slice-aggregate-put-form : tie.Need-slice-aggregate-put-form
 slice-aggregate-put-form c = search needs
@@ -51,7 +56,7 @@ unfolding grainForm endForm weight
 returns c =
     let f = c .before .before in
     let e = f .before .before .before .before .before .before in
-    let o = e .before .before .before .before .before .before in
+    let o = e .before .before .before .before .before .before .before .before in
     let h = o .before .before .before .before .before .before in
     let d = h .before .before .before in
     let s = d .before .before in
@@ -74,6 +79,7 @@ put-sheet-spec =
     slice-aggregate-put-optional
     put-optional-requires
     slice-aggregate-put-edges
+    slice-aggregate-put-edges-2
     put-edges-requires
     slice-aggregate-put-form
     slice-aggregate-put-form-2
