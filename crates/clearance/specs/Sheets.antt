@@ -34,12 +34,12 @@ write-read = trips.write-read
 whole-or-zero : (n : ℕ) (j : Job) → Whole j → Whole (accepted n j zeroJob)
 unfolding accepted
 whole-or-zero zero j h = h
-whole-or-zero (suc n) j h = refl
+whole-or-zero (suc n) j h = (refl, refl)
 
 answer-whole : (s : Sheet) → Whole (readAnswer s .job)
 unfolding readAnswer
-answer-whole (lines gs) = whole-or-zero (judge (jobOf gs)) (jobOf gs) (fit-length 512 _)
-answer-whole broken = refl
+answer-whole (lines gs) = whole-or-zero (judge (jobOf gs)) (jobOf gs) (fit-length 512 _, fit-length 64 _)
+answer-whole broken = (refl, refl)
 
 pub read-whole : ReadWhole
 unfolding read
