@@ -21,7 +21,7 @@ unfoldable pub tally : ℕ → ℕ → Bool → List ℕ → ℕ
 tally b c t [] = 0
 tally b c t (x ∷ s) = cond (eqb x c) (cond t 1 0) 0 + tally b c (eqb x b) s
 
--- whether b stands right after the text, where t says it of the text's front
+-- whether a text ends in b, or t where it is empty: what t is to the text that follows it
 unfoldable pub ends-in : ℕ → Bool → List ℕ → Bool
 ends-in b t [] = t
 ends-in b t (x ∷ s) = ends-in b (eqb x b) s
