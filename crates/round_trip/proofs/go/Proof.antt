@@ -47,8 +47,9 @@ returns c =
     let w = c .before .before .before .before .before .before .before .before .before .before .before .write in
     let r = c .before .before .before .before .before .before .before .read in
     let m = c .before .before .before .map in
-    -- of an array the language itself says how long it is
-    let whole : Whole (s .args .job) = search (needs, s .good .0 .1 .1 .1 .1 .1 .1 .1 .1 .1 .0) in
+    -- of an array the language itself says how long it is: the places, and behind them the marks
+    let arrays = s .good .0 .1 .1 .1 .1 .1 .1 .1 .1 .1 in
+    let whole : Whole (s .args .job) = search (needs, arrays .0, arrays .1 .0) in
     steps.trip (s .args .job) (s .args .out .now) whole (s .args .store .now) (s .args .cells .now) (w .last .1 .0) (m .last .1 .1 .0) (w .result) (r .result) (m .result) (w .ensures .0) (w .ensures .1) (r .ensures) (m .ensures .0) (m .ensures .1 .1 .1)
 
 pub go-spec : {M : Type 1} → statement M
