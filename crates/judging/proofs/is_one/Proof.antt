@@ -5,7 +5,7 @@ use Rattle.judging.proofs.is_one.Statement.{statement}
 use Rattle.judging.proofs.is_one.Tie as tie
 
 returns : tie.Need-returns
-returns c = search (needs, verdicts.is-one)
+returns c = let t = verdicts.is-one (c .args .z) (c .fits .z) in search needs
 
 pub is-one-spec : {M : Type 1} → statement M
 is-one-spec = tie.close (tie.spec returns)

@@ -5,7 +5,7 @@ use Rattle.judging.proofs.is_zero.Statement.{statement}
 use Rattle.judging.proofs.is_zero.Tie as tie
 
 returns : tie.Need-returns
-returns c = search (needs, verdicts.is-zero)
+returns c = let t = verdicts.is-zero (c .args .z) (c .fits .z) in search needs
 
 pub is-zero-spec : {M : Type 1} → statement M
 is-zero-spec = tie.close (tie.spec returns)

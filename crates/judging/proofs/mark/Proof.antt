@@ -1,4 +1,6 @@
 -- `judging::mark` meets its contract. Assumes nothing.
+use Prim.Native.Nat.{_≤_, _<_}
+use native.Mathlib.Omega.{arith}
 use borrow.Author.Needs.{needs}
 use Rattle.judging.proofs.Verdicts as verdicts
 use Rattle.judging.proofs.mark.Statement.{statement}
@@ -11,7 +13,7 @@ returns : tie.Need-returns
 returns c = search (needs, verdicts.mark-zero)
 
 returns-2 : tie.Need-returns-2
-returns-2 c = search (needs, verdicts.mark-past)
+returns-2 c = let a = c .before .before .before .args in let h : a .n ≤ a .i = omega arith in search (needs, verdicts.mark-past)
 
 is-one-requires : tie.Need-is-one-requires
 is-one-requires c κs = search needs
@@ -23,10 +25,13 @@ spare-requires : tie.Need-spare-requires
 spare-requires c κs = search needs
 
 returns-3 : tie.Need-returns-3
-returns-3 c = search (needs, verdicts.mark-line)
+returns-3 c =
+    let a = c .before .before .before .before .before .before .args in
+    let h : a .i < a .n = omega arith in
+    search (needs, verdicts.mark-line)
 
 returns-4 : tie.Need-returns-4
-returns-4 c = search (needs, verdicts.mark-none)
+returns-4 c = let a = c .before .before .before .before .before .args in let h : a .i < a .n = omega arith in search (needs, verdicts.mark-none)
 
 pub mark-spec : {M : Type 1} → statement M
 mark-spec =

@@ -11,10 +11,10 @@ use Rattle.judging.proofs.marked.Statement.{statement}
 use Rattle.judging.proofs.marked.Tie as tie
 
 abbrev Inv-loop : tie.InvT-loop
-Inv-loop n places marks i₀ i = (law.marked n marks places ≡ run (kindIn places) (n - i) i (drop i marks)) × (i ≤ 64)
+Inv-loop n marks places i₀ i = (law.marked n marks places ≡ run (kindIn places) (n - i) i (drop i marks)) × (i ≤ 64)
 
 abbrev μ-loop : tie.MeasureT-loop
-μ-loop n places marks i₀ i = 64 - i
+μ-loop n marks places i₀ i = 64 - i
 
 loop-holds : tie.Need-loop-holds Inv-loop μ-loop
 loop-holds c = search (needs, verdicts.marked-first)
@@ -22,8 +22,8 @@ loop-holds c = search (needs, verdicts.marked-first)
 mul-m : tie.Need-mul-m Inv-loop μ-loop
 mul-m c = omega arith
 
-array-copy-out-m : tie.Need-array-copy-out-m Inv-loop μ-loop
-array-copy-out-m c = omega arith
+element-copy-out-m : tie.Need-element-copy-out-m Inv-loop μ-loop
+element-copy-out-m c = omega arith
 
 mark-requires : tie.Need-mark-requires Inv-loop μ-loop
 mark-requires c κs = search needs
@@ -51,7 +51,7 @@ marked-spec =
     μ-loop
     loop-holds
     mul-m
-    array-copy-out-m
+    element-copy-out-m
     mark-requires
     returns
     add-i

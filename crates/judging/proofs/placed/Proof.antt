@@ -22,8 +22,8 @@ loop-holds c = search (needs, verdicts.placed-first)
 mul-v : tie.Need-mul-v Inv-loop μ-loop
 mul-v c = omega arith
 
-array-copy-out-v : tie.Need-array-copy-out-v Inv-loop μ-loop
-array-copy-out-v c = omega arith
+element-copy-out-v : tie.Need-element-copy-out-v Inv-loop μ-loop
+element-copy-out-v c = omega arith
 
 place-requires : tie.Need-place-requires Inv-loop μ-loop
 place-requires c κs = tt
@@ -51,7 +51,7 @@ placed-spec =
     μ-loop
     loop-holds
     mul-v
-    array-copy-out-v
+    element-copy-out-v
     place-requires
     returns
     add-i
