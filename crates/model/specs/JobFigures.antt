@@ -41,6 +41,10 @@ twice = job (pos 0) (pos 0) (pos 0) (pos 0) (pos 1) (pos 1) 2 (pos 1 ∷ pos 2 �
 abbrev pub stamped : ℕ → ℕ → ℤ → Job
 stamped k i v = mixedJob (pos 0) (pos 0) (pos 0) (pos 0) (pos 1) (pos 1) k [] (replicate i (pos 0) ++ (v ∷ []))
 
+-- one edge with these marks, and no numbers
+abbrev pub bare : List ℤ → Job
+bare ms = record { x = pos 0; y = pos 0; n = pos 0; m = pos 0; reach = pos 1; grain = pos 1; count = 1; places = []; marks = ms }
+
 -- two lines, with v at place i of the 512
 abbrev pub lined : ℕ → ℤ → Job
 lined i v = mixedJob (pos 0) (pos 0) (pos 0) (pos 0) (pos 1) (pos 1) 2 (replicate i (pos 0) ++ (v ∷ [])) (pos 1 ∷ pos 1 ∷ [])
@@ -100,6 +104,7 @@ jobFigures =
     ∷ judged (stamped 1 0 (pos 1)) 0
     ∷ judged (stamped 1 0 (pos 2)) 3
     ∷ judged (stamped 1 0 (negsuc 0)) 3
+    ∷ judged (stamped 1 0 (negsuc 1)) 3
     ∷ judged (stamped 64 63 (pos 1)) 0
     ∷ judged (stamped 64 63 (pos 2)) 3
     -- the first mark past the count, and the last of all
@@ -107,6 +112,7 @@ jobFigures =
     ∷ judged (stamped 1 1 (negsuc 0)) 3
     ∷ judged (stamped 2 1 (pos 1)) 0
     ∷ judged (stamped 63 63 (pos 1)) 3
+    ∷ judged (stamped 1 63 (pos 1)) 3
     -- a line's numbers: the fourth and the fifth, the eighth, and the same of a second line
     ∷ judged (lined 3 (pos 1)) 0
     ∷ judged (lined 4 (pos 1)) 3
@@ -133,7 +139,9 @@ jobFigures =
     ∷ outlined (mixedJob (pos 0) (pos 0) (pos 0) (pos 0) (pos 1) (pos 1) 2 twelve (pos 0 ∷ pos 1 ∷ []))
     (edge (cubic (pos 1) (pos 3) (pos 5) (pos 7)) (cubic (pos 2) (pos 4) (pos 6) (pos 8)) ∷ edge (line (negsuc 0) (negsuc 2)) (line (negsuc 1) (negsuc 3)) ∷ [])
     -- a number that is not there is 0
-    ∷ outlined (record { x = pos 0; y = pos 0; n = pos 0; m = pos 0; reach = pos 1; grain = pos 1; count = 1; places = []; marks = [] }) (edge (cubic (pos 0) (pos 0) (pos 0) (pos 0)) (cubic (pos 0) (pos 0) (pos 0) (pos 0)) ∷ [])
+    ∷ judged (bare (pos 1 ∷ [])) 0
+    ∷ outlined (bare []) (edge (cubic (pos 0) (pos 0) (pos 0) (pos 0)) (cubic (pos 0) (pos 0) (pos 0) (pos 0)) ∷ [])
+    ∷ outlined (bare (pos 1 ∷ [])) (edge (line (pos 0) (pos 0)) (line (pos 0) (pos 0)) ∷ [])
     ∷ []
 
 pub jobs-hold : AllHold Holds jobFigures
@@ -143,5 +151,5 @@ jobs-hold =
     and refl and refl and refl and refl and refl and refl and refl and refl and refl and refl and refl and refl and refl and refl and refl and refl
     and refl and refl and refl and refl and refl and refl and refl and refl and refl and refl and refl and refl and refl
     and refl and refl and refl and refl and refl and refl and refl and refl and refl and refl and refl and refl and refl and refl and refl and refl
-    and refl and refl and refl and refl and refl and refl and refl
+    and refl and refl and refl and refl and refl and refl and refl and refl and refl and refl and refl
     and tt

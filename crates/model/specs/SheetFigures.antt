@@ -178,6 +178,12 @@ sheetFigures =
     ((plain [] ∷ []) ∷ (plain (pos 11 ∷ negsuc 11 ∷ pos 6 ∷ []) ∷ []) ∷ (plain (pos 3 ∷ []) ∷ []) ∷ (plain (pos 14 ∷ []) ∷ []) ∷ []
     ∷ (plain (pos 1 ∷ pos 2 ∷ pos 3 ∷ pos 4 ∷ pos 5 ∷ pos 6 ∷ pos 7 ∷ pos 8 ∷ []) ∷ plain (negsuc 0 ∷ negsuc 1 ∷ negsuc 2 ∷ negsuc 3 ∷ negsuc 4 ∷ negsuc 5 ∷ negsuc 6 ∷ negsuc 7 ∷ []) ∷ [])
     ∷ (plain [] ∷ []) ∷ [])
+    ∷ job-lines mixedSheet
+    ((plain [] ∷ []) ∷ (plain (pos 11 ∷ negsuc 11 ∷ pos 6 ∷ []) ∷ []) ∷ (plain (pos 3 ∷ []) ∷ []) ∷ (plain (pos 14 ∷ []) ∷ []) ∷ []
+    ∷ (record { which = 1; numbers = pos 1 ∷ pos 2 ∷ pos 3 ∷ pos 4 ∷ [] } ∷ plain (pos 1 ∷ pos 2 ∷ pos 3 ∷ pos 4 ∷ pos 5 ∷ pos 6 ∷ pos 7 ∷ pos 8 ∷ []) ∷ record { which = 1; numbers = negsuc 0 ∷ negsuc 1 ∷ negsuc 2 ∷ negsuc 3 ∷ [] } ∷ [])
+    ∷ (plain [] ∷ []) ∷ [])
+    -- an edge without a mark is a cubic
+    ∷ writes-sheet (record { x = pos 0; y = pos 0; n = pos 0; m = pos 0; reach = pos 1; grain = pos 10; count = 1; places = []; marks = [] }) "(job\n(plate 0 0 0)\n(cell 0)\n(reach 1)\n(edge (0 0) (0 0) (0 0) (0 0))\n)\n"
     -- a grain that no accepted job has is written too
     ∷ writes-sheet (job (pos 0) (pos 0) (pos 0) (pos 0) (pos 0) (negsuc 9) 0 []) "(job\n(plate 0 0 0)\n(cell 0)\n(reach 0)\n(grain -10)\n)\n"
     -- the default grain may be written
@@ -245,7 +251,7 @@ pub sheets-hold : AllHold Holds sheetFigures
 unfolding text decimal number natural moreDigits digit writeAll writeLines writeLine writeForm readAll readLines readLine readForm byte times layout tailLayout jobForm plateForm cellForm reachForm grainForm edgeForm lineForm endForm same stated edgeLines sheetOf joined fit marksOf placesOf ended readSheet read readAnswer accepted judge counted ranged celled between coordinate isZero placed isOne spare kind marked
 sheets-hold =
     refl and refl and refl and refl and refl and refl and refl
-    and (refl, refl) and (refl, refl) and (refl, refl) and (refl, refl) and refl and refl and refl and refl and refl and refl and refl and refl and refl and refl and refl and refl and refl and refl and refl and refl
+    and (refl, refl) and (refl, refl) and (refl, refl) and (refl, refl) and refl and refl and refl and refl and refl and refl and refl and refl and refl and refl and refl and refl and refl and refl and refl and refl and refl and refl
     and refl and refl and refl and refl and refl and refl and refl and refl and refl and refl and refl and refl and refl and refl
     and refl and refl and refl and refl and refl and refl and refl and refl
     and tt
