@@ -33,7 +33,7 @@ abbrev pub EdgesCase : Job → Type 0
 EdgesCase j = (j .count < 1) ⊎ (64 < j .count)
 
 -- 3: a number of the job lies outside its range. Of its 512 numbers, those of its edges are coordinates, and those past them are 0. Of its 64
--- marks one is not 0, and it stands past the count, or it is not 1, or the last four numbers of its place are not all 0
+-- marks, those of its edges are 0, or 1 where the last four numbers of the place are 0, and those past them are 0
 abbrev pub Outside : ℤ → ℤ → ℤ → Type 0
 Outside lo hi z = (z <ℤ lo) ⊎ (hi <ℤ z)
 

@@ -124,7 +124,7 @@ abbrev pub NoOtherByte : Type 0
 NoOtherByte = (b : ℕ) → (b ≡ 67 → ⊥) → (b ≡ 73 → ⊥) → (b ≡ 68 → ⊥) → Shows b (λ j C. ⊥)
 
 -- ---- one call after another
--- every job that reading gives has its 64 places, and it is a legal one exactly where the sheet was accepted
+-- every job that reading gives has its 64 places and 64 marks, and it is a legal one exactly where the sheet was accepted
 abbrev pub ReadWhole : Type 0
 ReadWhole = (s : List ℕ) → Whole (read s .job)
 
