@@ -1,13 +1,6 @@
 -- The mark says which form is made. Assumes nothing.
-use mathlib.Core.Path.{ap}
 use native.Mathlib.Omega.{arith}
-use lib.Dec.{lit<}
-use lib.IntN.{pos}
-use lib.ListN.{getD}
 use borrow.Author.Needs.{needs}
-use mir.Syntax.{w32}
-use mir.Val.{ofZ}
-use Rattle.integers.specs.Signed.{same32}
 use Rattle.forests.proofs.Controls.{cubic-picked, line-picked}
 use Rattle.forests.proofs.power_of.Statement.{statement}
 use Rattle.forests.proofs.power_of.Tie as tie
@@ -31,7 +24,7 @@ returns : tie.Need-returns
 returns c =
     let t = c .before in
     let s = t .before .before in
-    rw (cubic-picked (getD (s .args .marks .now) (s .args .e) (pos 0)) (s .args .places .now) _ (same32 (getD (s .args .marks .now) (s .args .e) (pos 0)) (pos 0) (t .before .mark .given) (lit< tt) (t .if1 .taken))) (c .cubic-at .ensures)
+    rw (cubic-picked (s .args .marks .now) (s .args .places .now) (s .args .e) _ (t .before .mark .given) (t .if1 .taken) (omega arith)) (c .cubic-at .ensures)
 
 line-at-requires : tie.Need-line-at-requires
 line-at-requires c κs = let s = c .before .before in (s .pre .0, omega (arith, s .pre .1, s .pre .2))
@@ -40,7 +33,7 @@ returns-2 : tie.Need-returns-2
 returns-2 c =
     let t = c .before in
     let s = t .before .before in
-    rw (line-picked (getD (s .args .marks .now) (s .args .e) (pos 0)) (s .args .places .now) _ (λ e. t .if1 .left (ap (ofZ w32) e))) (c .line-at .ensures)
+    rw (line-picked (s .args .marks .now) (s .args .places .now) (s .args .e) _ (t .if1 .left) (omega arith)) (c .line-at .ensures)
 
 pub power-of-spec : {M : Type 1} → statement M
 power-of-spec =
