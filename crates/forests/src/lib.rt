@@ -7,12 +7,12 @@ use strips::Power;
 use strips::Shape;
 ghost use mathlib.Core.Path.{_≡_};
 ghost use mathlib.Core.List.{_++_};
-ghost use mathlib.Core.Bool.{false, cond};
+ghost use mathlib.Core.Bool.{true, false, not, cond};
 ghost use Prim.Native.Nat.{_+_, _*_, _≤_, _<_};
 ghost use lib.IntN.{pos, natAbs};
 ghost use lib.ListN.{length, getD, drop};
 ghost use Rattle.model.specs.Refusals.{check, first, stranger};
-ghost use Rattle.model.specs.Jobs.{cubic, line, componentAt, edgeAt, edgesFrom};
+ghost use Rattle.model.specs.Jobs.{cubic, line, isZero, edgeAt, edgesFrom};
 ghost use Rattle.model.specs.Strips.{sideAt, strip};
 ghost use Rattle.model.specs.Trees.{tree, trees, anyLong};
 ghost use Rattle.model.specs.Store.{width, size, flatten, sizes, flattenAll, begins};
@@ -23,6 +23,7 @@ ghost use Rattle.subtrees.specs.Preorder.{Begins, BeginsAll};
 ghost use Rattle.subtrees.specs.Counts.{count};
 ghost use Rattle.strips.specs.Structs.{form, sideBy, stripsOf, ShapeSized};
 ghost use Rattle.strip_trees.specs.Comparisons.{Told as Found};
+ghost use Rattle.forests.specs.Kinds.{componentBy};
 ghost use Rattle.forests.specs.Ready.{Ready};
 ghost use Rattle.forests.specs.Walk.{treesFrom, Ahead, Whole, Says};
 ghost use Rattle.forests.specs.Told.{Told};
@@ -40,7 +41,7 @@ fn control(places: &[i32; 512], i: usize) -> i64
 
 fn line_at(places: &[i32; 512], b: usize) -> Power
     requires limits { ⌜ Limits (now places) × (b < 506) ⌝ }
-    ensures sides { λ r. ⌜ sideBy r ≡ sideAt (line (getD (now (places .entry)) b (pos 0)) (getD (now (places .entry)) (b + 2) (pos 0))) ⌝ }
+    ensures sides { λ r. ⌜ sideBy true r ≡ sideAt (line (getD (now (places .entry)) b (pos 0)) (getD (now (places .entry)) (b + 2) (pos 0))) ⌝ }
     ensures sized { λ r. ⌜ FormSized (form r) ⌝ }
 {
     let first = control(places, b);
@@ -50,7 +51,7 @@ fn line_at(places: &[i32; 512], b: usize) -> Power
 
 fn cubic_at(places: &[i32; 512], b: usize) -> Power
     requires limits { ⌜ Limits (now places) × (b < 506) ⌝ }
-    ensures sides { λ r. ⌜ sideBy r ≡ sideAt (cubic (getD (now (places .entry)) b (pos 0)) (getD (now (places .entry)) (b + 2) (pos 0)) (getD (now (places .entry)) (b + 4) (pos 0)) (getD (now (places .entry)) (b + 6) (pos 0))) ⌝ }
+    ensures sides { λ r. ⌜ sideBy false r ≡ sideAt (cubic (getD (now (places .entry)) b (pos 0)) (getD (now (places .entry)) (b + 2) (pos 0)) (getD (now (places .entry)) (b + 4) (pos 0)) (getD (now (places .entry)) (b + 6) (pos 0))) ⌝ }
     ensures sized { λ r. ⌜ FormSized (form r) ⌝ }
 {
     let b0 = control(places, b);
@@ -60,18 +61,22 @@ fn cubic_at(places: &[i32; 512], b: usize) -> Power
     strips::power_form(b0, b1, b2, b3)
 }
 
-// the power form of edge e in coordinate i
-fn power_of(marks: &[i32; 64], places: &[i32; 512], e: usize, i: usize) -> Power
-    requires limits { ⌜ Limits (now places) × (e < 64) × (i < 2) ⌝ }
-    ensures sides { λ r. ⌜ sideBy r ≡ sideAt (componentAt (getD (now (marks .entry)) e (pos 0)) (now (places .entry)) (8 * e + i)) ⌝ }
+// the power form from number b on, of a line or of a cubic
+fn power_of(straight: bool, places: &[i32; 512], b: usize) -> Power
+    requires limits { ⌜ Limits (now places) × (b < 506) ⌝ }
+    ensures sides { λ r. ⌜ sideBy straight r ≡ sideAt (componentBy straight (now (places .entry)) b) ⌝ }
     ensures sized { λ r. ⌜ FormSized (form r) ⌝ }
 {
-    let b = 8 * e + i;
-    let mark = marks[e];
-    if mark == 0 {
-        return cubic_at(places, b);
+    if straight {
+        return line_at(places, b);
     }
-    line_at(places, b)
+    cubic_at(places, b)
+}
+
+fn is_line(mark: i32) -> bool
+    ensures kind { λ r. ⌜ r ≡ not (isZero mark) ⌝ }
+{
+    mark != 0
 }
 
 // the shape of edge e, whose strips are the edge's
@@ -80,9 +85,14 @@ fn shape_of(marks: &[i32; 64], places: &[i32; 512], e: usize) -> Shape
     ensures strips { λ r. ⌜ stripsOf r ≡ strip (edgeAt (now (marks .entry)) (now (places .entry)) e) ⌝ }
     ensures sized { λ r. ⌜ ShapeSized r ⌝ }
 {
-    let x = power_of(marks, places, e, 0);
-    let y = power_of(marks, places, e, 1);
-    Shape { x: x, y: y }
+    let straight = is_line(marks[e]);
+    let x = power_of(straight, places, 8 * e);
+    let y = power_of(straight, places, 8 * e + 1);
+    Shape {
+        x: x,
+        y: y,
+        straight: straight,
+    }
 }
 
 // ---- a whole edge is piece 0 of depth 0

@@ -17,24 +17,21 @@ pub form-eq : {a b c d p q r s : ℤ} → a ≡ p → b ≡ q → c ≡ r → d 
 form-eq e f g h = cc
 
 -- ---- a form's strips and its size, from its coefficients
-abbrev power : Bool → ℤ → ℤ → ℤ → ℤ → Power
-power t a b c d = record { c0 = a; c1 = b; c2 = c; c3 = d; straight = t }
+abbrev power : ℤ → ℤ → ℤ → ℤ → Power
+power a b c d = record { c0 = a; c1 = b; c2 = c; c3 = d }
 
-pub as-curved : {a b c d : ℤ} (b0 b1 b2 b3 : ℤ) → CubicSized b0 b1 b2 b3 → _≡_ {A = PowerForm} (record { c0 = a; c1 = b; c2 = c; c3 = d }) (powerOf b0 b1 b2 b3) → (sideBy (power false a b c d) ≡ sideAt (cubic b0 b1 b2 b3)) × FormSized (form (power false a b c d))
+pub as-curved : {a b c d : ℤ} (b0 b1 b2 b3 : ℤ) → CubicSized b0 b1 b2 b3 → _≡_ {A = PowerForm} (record { c0 = a; c1 = b; c2 = c; c3 = d }) (powerOf b0 b1 b2 b3) → (sideBy false (power a b c d) ≡ sideAt (cubic b0 b1 b2 b3)) × FormSized (form (power a b c d))
 unfolding sideBy sideAt
 as-curved b0 b1 b2 b3 h e = (ap {B = ℕ → ℕ → Side} (λ (f : PowerForm). λ (n m : ℕ). curved f n m) e, subst FormSized (sym e) (form-sized b0 b1 b2 b3 h))
 
-pub as-straight : {a g : ℤ} (b0 b1 : ℤ) → LineSized b0 b1 → a ≡ b0 → g ≡ b1 -ℤ b0 → (sideBy (power true a g (pos 0) (pos 0)) ≡ sideAt (line b0 b1)) × FormSized (form (power true a g (pos 0) (pos 0)))
+pub as-straight : {a g : ℤ} (b0 b1 : ℤ) → LineSized b0 b1 → a ≡ b0 → g ≡ b1 -ℤ b0 → (sideBy true (power a g (pos 0) (pos 0)) ≡ sideAt (line b0 b1)) × FormSized (form (power a g (pos 0) (pos 0)))
 unfolding sideBy sideAt
 as-straight b0 b1 h e f = (ap₂ {C = ℕ → ℕ → Side} (λ (a g : ℤ). λ (n m : ℕ). straight a g n m) e f, subst FormSized (sym (form-eq e f refl refl)) (line-sized b0 b1 h))
 
-pub by-sized : (c : Power) (n m : ℕ) → FormSized (form c) → 2 ≤ n → m ≤ n → SideSized (sideBy c n m)
+pub by-sized : (t : Bool) (c : Power) (n m : ℕ) → FormSized (form c) → 2 ≤ n → m ≤ n → SideSized (sideBy t c n m)
 unfolding sideBy
-by-sized c n m s h k = go (c .straight)
-  where
-    go : (t : Bool) → SideSized (cond t (straight (c .c0) (c .c1) n m) (curved (form c) n m))
-    go true = straight-sized (form c) n m s h k
-    go false = curved-sized (form c) n m s h k
+by-sized true c n m s h k = straight-sized (form c) n m s h k
+by-sized false c n m s h k = curved-sized (form c) n m s h k
 
 pub record Given (f : PowerForm) (N M : ℤ) : Type 0 where
   pub c0 : Made (f .c0) (f .c0) c0Most

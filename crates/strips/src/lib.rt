@@ -2,7 +2,7 @@
 use nodes::Extent;
 use rounding::Quotient;
 ghost use mathlib.Core.Path.{_≡_};
-ghost use mathlib.Core.Bool.{cond};
+ghost use mathlib.Core.Bool.{true, false, cond};
 ghost use Prim.Native.Nat.{_≤_, _<_};
 ghost use lib.Dec.{T};
 ghost use lib.IntN.{pos, natAbs};
@@ -10,24 +10,25 @@ ghost use lib.Signed.{nonNeg};
 ghost use Rattle.model.specs.Jobs.{cubic, line};
 ghost use Rattle.model.specs.Strips.{a0, a1, a2, centreOf, axisOf, secondOf, thirdOf, boxOf, curved, straight, sideAt, fits, short};
 ghost use Rattle.ranges.specs.Sizes.{grainMost, CubicSized, LineSized, SideSized, Sized};
-ghost use Rattle.ranges.specs.PowerForm.{FormSized, c0Most, c1Most, nMost, cubeMost, a0Most, a1Most, a2Most, secondMost, thirdMost};
+ghost use Rattle.ranges.specs.PowerForm.{FormSized, nMost, cubeMost, a0Most, a1Most, a2Most, secondMost, thirdMost};
 ghost use Rattle.subtrees.specs.Subtrees.{PieceAt};
 ghost use Rattle.nodes.specs.Structs.{side, stripOf};
 ghost use Rattle.strips.specs.Structs.{form, sideBy, stripsOf, ShapeSized};
 
-// The power form in one coordinate, and whether the edge is a line, whose c2 and c3 are 0.
+// The power form in one coordinate. A line's c2 and c3 are 0.
 pub struct Power {
     pub c0: i64,
     pub c1: i64,
     pub c2: i64,
     pub c3: i64,
-    pub straight: bool,
 }
 
-// What an edge's strips are made from: here its power form in both coordinates. Code over pieces hands it on and looks no further.
+// What an edge's strips are made from: its power form in both coordinates, and whether it is a line. Code over pieces hands it on and looks no
+// further.
 pub struct Shape {
     pub x: Power,
     pub y: Power,
+    pub straight: bool,
 }
 
 // A piece's strip, and whether it is short.
@@ -42,7 +43,7 @@ pub const DEEPEST: usize = 10;
 
 pub fn power_form(b0: i64, b1: i64, b2: i64, b3: i64) -> Power
     requires sizes { ⌜ CubicSized b0 b1 b2 b3 ⌝ }
-    ensures sides { λ r. ⌜ sideBy r ≡ sideAt (cubic b0 b1 b2 b3) ⌝ }
+    ensures sides { λ r. ⌜ sideBy false r ≡ sideAt (cubic b0 b1 b2 b3) ⌝ }
     ensures sized { λ r. ⌜ FormSized (form r) ⌝ }
 {
     let c1 = 3 * (b1 - b0);
@@ -53,14 +54,13 @@ pub fn power_form(b0: i64, b1: i64, b2: i64, b3: i64) -> Power
         c1: c1,
         c2: c2,
         c3: c3,
-        straight: false,
     }
 }
 
 // of the line from a to b
 pub fn line_form(a: i64, b: i64) -> Power
     requires sizes { ⌜ LineSized a b ⌝ }
-    ensures sides { λ r. ⌜ sideBy r ≡ sideAt (line a b) ⌝ }
+    ensures sides { λ r. ⌜ sideBy true r ≡ sideAt (line a b) ⌝ }
     ensures sized { λ r. ⌜ FormSized (form r) ⌝ }
 {
     let c1 = b - a;
@@ -69,7 +69,6 @@ pub fn line_form(a: i64, b: i64) -> Power
         c1: c1,
         c2: 0,
         c3: 0,
-        straight: true,
     }
 }
 
@@ -164,11 +163,13 @@ fn slack(q: Quotient) -> i64
     if q.whole { 0 } else { 1 }
 }
 
-// from a by g: two quotients by N
-fn straight_of(a: i64, g: i64, n: usize, m: usize) -> Extent
-    requires sizes { ⌜ (natAbs a ≤ c0Most) × (natAbs g ≤ c1Most) × (2 ≤ n) × (n ≤ nMost) × (m ≤ n) ⌝ }
-    ensures strip { λ r. ⌜ side r ≡ straight a g n m ⌝ }
+// a line's two quotients by N
+fn straight_of(c: Power, n: usize, m: usize) -> Extent
+    requires sizes { ⌜ FormSized (form c) × (2 ≤ n) × (n ≤ nMost) × (m ≤ n) ⌝ }
+    ensures strip { λ r. ⌜ side r ≡ straight (c .c0) (c .c1) n m ⌝ }
 {
+    let a = c.c0;
+    let g = c.c1;
     let p = n as i64;
     let q = m as i64;
     let centre = rounding::rounded(16 * (a * p + g * q), p);
@@ -179,16 +180,6 @@ fn straight_of(a: i64, g: i64, n: usize, m: usize) -> Extent
         axis: axis.nearest,
         half: half,
     }
-}
-
-fn extent_of(c: Power, n: usize, m: usize) -> Extent
-    requires sizes { ⌜ FormSized (form c) × (2 ≤ n) × (n ≤ nMost) × (m ≤ n) ⌝ }
-    ensures strip { λ r. ⌜ side r ≡ sideBy c n m ⌝ }
-{
-    if c.straight {
-        return straight_of(c.c0, c.c1, n, m);
-    }
-    curved_of(c, n, m)
 }
 
 // ---- short: no upright box half above 16 grains
@@ -213,6 +204,19 @@ fn is_short(x: Extent, y: Extent, grain: i64) -> bool
     }
 }
 
+fn with_short(x: Extent, y: Extent, grain: i64) -> Piece
+    requires sizes { ⌜ Sized (stripOf x y) × (natAbs grain ≤ grainMost) ⌝ }
+    ensures strip { λ r. ⌜ stripOf (r .x) (r .y) ≡ stripOf x y ⌝ }
+    ensures short { λ r. ⌜ r .short ≡ short grain (stripOf x y) ⌝ }
+{
+    let short = is_short(x, y, grain);
+    Piece {
+        x: x,
+        y: y,
+        short: short,
+    }
+}
+
 // the strip of piece k of depth d, in both coordinates
 pub fn piece_of(shape: Shape, d: usize, k: usize, grain: i64) -> Piece
     requires sizes { ⌜ ShapeSized shape × PieceAt d k × (natAbs grain ≤ grainMost) ⌝ }
@@ -222,12 +226,12 @@ pub fn piece_of(shape: Shape, d: usize, k: usize, grain: i64) -> Piece
 {
     let n: usize = 2 << d;
     let m = 2 * k + 1;
-    let x = extent_of(shape.x, n, m);
-    let y = extent_of(shape.y, n, m);
-    let short = is_short(x, y, grain);
-    Piece {
-        x: x,
-        y: y,
-        short: short,
+    if shape.straight {
+        let x = straight_of(shape.x, n, m);
+        let y = straight_of(shape.y, n, m);
+        return with_short(x, y, grain);
     }
+    let x = curved_of(shape.x, n, m);
+    let y = curved_of(shape.y, n, m);
+    with_short(x, y, grain)
 }

@@ -4,6 +4,7 @@ use Prim.Native.Nat.{ℕ, _*_, _%_, _^_, _≤_}
 use native.Mathlib.Numerals.{add-one}
 use native.Mathlib.Nat.{pow-suc, mod-eq-of-lt}
 use native.Mathlib.Omega.{arith}
+use lib.IntN.{ℤ}
 use lib.Pow.{pow-pos, pow-mono}
 use mir.Facts.{toZ-ofZ}
 use Rattle.model.specs.Strips.{Side, Strip, denominator, middle, short}
@@ -11,8 +12,11 @@ use Rattle.model.specs.Trees.{deepest}
 use Rattle.ranges.specs.Sizes.{Sized}
 use Rattle.ranges.specs.PowerForm.{nMost}
 use Rattle.subtrees.specs.Subtrees.{PieceAt}
-use Rattle.nodes.specs.Structs.{stripOf}
-use Rattle.strips.specs.Structs.{stripsOf}
+use Rattle.nodes.specs.declared.Extent.{Extent}
+use Rattle.nodes.specs.Structs.{side, stripOf}
+use Rattle.strips.specs.declared.Shape.{Shape}
+use Rattle.strips.specs.declared.Piece.{Piece}
+use Rattle.strips.specs.Structs.{sideBy, stripsOf, ShapeSized}
 use Rattle.strips.proofs.Coefficients.{by-sized}
 use Rattle.strips.proofs.piece_of.Statement.{statement}
 use Rattle.strips.proofs.piece_of.Tie as tie
@@ -48,41 +52,89 @@ mul-m c = let p = piece c in omega (arith, p .most, p .middle-in)
 add-m : tie.Need-add-m
 add-m c = let p = piece c in omega (arith, p .most, p .middle-in)
 
-extent-of-requires : tie.Need-extent-of-requires
-extent-of-requires c κs = let p = piece c in rw (p .is) (c .pre .0 .x-form, p .two, p .most, p .middle-in)
-
-extent-of-requires-2 : tie.Need-extent-of-requires-2
-extent-of-requires-2 c κs = let s = c .before in let p = piece s in rw (p .is) (s .pre .0 .y-form, p .two, p .most, p .middle-in)
-
-module _ (c : tie.After-extent-of2) where
-  abbrev start : tie.Start
-  start = c .before .before
-
-  strip-is : stripOf (c .before .extent-of .result) (c .extent-of2 .result) ≡ stripsOf (start .args .shape) (start .args .d) (start .args .k)
+-- two strips that are a shape's, of either kind
+module _ (shape : Shape) (d k : ℕ) (h : ShapeSized shape) (p : Doubled d k) (x y : Extent) where
+  strip-is : side x ≡ sideBy (shape .straight) (shape .x) (denominator d) (middle k) → side y ≡ sideBy (shape .straight) (shape .y) (denominator d) (middle k) → stripOf x y ≡ stripsOf shape d k
   unfolding stripsOf
-  strip-is =
-      let p = piece start in
-      ap₂ {C = Strip} (λ (x y : Side). record { x = x; y = y }) (rw (p .is) at (c .before .extent-of .ensures)) (rw (p .is) at (c .extent-of2 .ensures))
+  strip-is e f = ap₂ {C = Strip} (λ (x y : Side). record { x = x; y = y }) e f
 
-  strip-sized : Sized (stripOf (c .before .extent-of .result) (c .extent-of2 .result))
+  strip-sized : stripOf x y ≡ stripsOf shape d k → Sized (stripOf x y)
   unfolding stripsOf
-  strip-sized =
-      let p = piece start in
-      let f = start .pre .0 in
-      subst Sized (sym strip-is) (record {
-        x-sized = by-sized (start .args .shape .x) (denominator (start .args .d)) (middle (start .args .k)) (f .x-form) (p .two) (p .middle-in);
-        y-sized = by-sized (start .args .shape .y) (denominator (start .args .d)) (middle (start .args .k)) (f .y-form) (p .two) (p .middle-in);
-      })
+  strip-sized e = subst Sized (sym e) (record {
+    x-sized = by-sized (shape .straight) (shape .x) (denominator d) (middle k) (h .x-form) (p .two) (p .middle-in);
+    y-sized = by-sized (shape .straight) (shape .y) (denominator d) (middle k) (h .y-form) (p .two) (p .middle-in);
+  })
 
-is-short-requires : tie.Need-is-short-requires
-is-short-requires c κs = (strip-sized c, rw (toZ-ofZ (start c .fits .grain)) (start c .pre .2))
+  -- what they are handed on as
+  handed : (T : ℤ) (r : Piece) → stripOf x y ≡ stripsOf shape d k → (stripOf (r .x) (r .y) ≡ stripOf x y) × (r .short ≡ short T (stripOf x y)) → (stripOf (r .x) (r .y) ≡ stripsOf shape d k) × (Sized (stripOf (r .x) (r .y)) × (r .short ≡ short T (stripsOf shape d k)))
+  handed T r e h = (h .0 ∙ e, (subst Sized (sym (h .0)) (strip-sized e), h .1 ∙ ap (short T) e))
+
+-- ---- a line's
+straight-of-requires : tie.Need-straight-of-requires
+straight-of-requires c κs = let s = c .before in let p = piece s in rw (p .is) (s .pre .0 .x-form, p .two, p .most, p .middle-in)
+
+straight-of-requires-2 : tie.Need-straight-of-requires-2
+straight-of-requires-2 c κs = let s = c .before .before in let p = piece s in rw (p .is) (s .pre .0 .y-form, p .two, p .most, p .middle-in)
+
+line-is : (c : tie.After-straight-of2) → let s = c .before .before .before in stripOf (c .before .straight-of .result) (c .straight-of2 .result) ≡ stripsOf (s .args .shape) (s .args .d) (s .args .k)
+unfolding sideBy
+line-is c =
+    let t = c .before .before in
+    let s = t .before in
+    let p = piece s in
+    strip-is (s .args .shape) (s .args .d) (s .args .k) (s .pre .0) p (c .before .straight-of .result) (c .straight-of2 .result)
+    (rw (t .if1 .taken) (rw (p .is) at (c .before .straight-of .ensures))) (rw (t .if1 .taken) (rw (p .is) at (c .straight-of2 .ensures)))
+
+with-short-requires : tie.Need-with-short-requires
+with-short-requires c κs =
+    let s = c .before .before .before in
+    (strip-sized (s .args .shape) (s .args .d) (s .args .k) (s .pre .0) (piece s) (c .before .straight-of .result) (c .straight-of2 .result) (line-is c), rw (toZ-ofZ (s .fits .grain)) (s .pre .2))
 
 returns : tie.Need-returns
 returns c =
     let b = c .before in
-    let s = start b in
-    let e = rw (toZ-ofZ (s .fits .grain)) at (c .is-short .ensures) in
-    (strip-is b, (strip-sized b, e ∙ ap (short (s .args .grain)) (strip-is b)))
+    let s = b .before .before .before in
+    handed (s .args .shape) (s .args .d) (s .args .k) (s .pre .0) (piece s) (b .before .straight-of .result) (b .straight-of2 .result) (s .args .grain) (c .with-short .result) (line-is b) (rw (toZ-ofZ (s .fits .grain)) at (c .with-short .ensures))
+
+-- ---- a cubic's
+curved-of-requires : tie.Need-curved-of-requires
+curved-of-requires c κs = let s = c .before in let p = piece s in rw (p .is) (s .pre .0 .x-form, p .two, p .most, p .middle-in)
+
+curved-of-requires-2 : tie.Need-curved-of-requires-2
+curved-of-requires-2 c κs = let s = c .before .before in let p = piece s in rw (p .is) (s .pre .0 .y-form, p .two, p .most, p .middle-in)
+
+cubic-is : (c : tie.After-curved-of2) → let s = c .before .before .before in stripOf (c .before .curved-of .result) (c .curved-of2 .result) ≡ stripsOf (s .args .shape) (s .args .d) (s .args .k)
+unfolding sideBy
+cubic-is c =
+    let t = c .before .before in
+    let s = t .before in
+    let p = piece s in
+    strip-is (s .args .shape) (s .args .d) (s .args .k) (s .pre .0) p (c .before .curved-of .result) (c .curved-of2 .result)
+    (rw (t .if1 .left) (rw (p .is) at (c .before .curved-of .ensures))) (rw (t .if1 .left) (rw (p .is) at (c .curved-of2 .ensures)))
+
+with-short-requires-2 : tie.Need-with-short-requires-2
+with-short-requires-2 c κs =
+    let s = c .before .before .before in
+    (strip-sized (s .args .shape) (s .args .d) (s .args .k) (s .pre .0) (piece s) (c .before .curved-of .result) (c .curved-of2 .result) (cubic-is c), rw (toZ-ofZ (s .fits .grain)) (s .pre .2))
+
+returns-2 : tie.Need-returns-2
+returns-2 c =
+    let b = c .before in
+    let s = b .before .before .before in
+    handed (s .args .shape) (s .args .d) (s .args .k) (s .pre .0) (piece s) (b .before .curved-of .result) (b .curved-of2 .result) (s .args .grain) (c .with-short2 .result) (cubic-is b) (rw (toZ-ofZ (s .fits .grain)) at (c .with-short2 .ensures))
 
 pub piece-of-spec : {M : Type 1} → statement M
-piece-of-spec = tie.close (tie.spec shl-n mul-m add-m extent-of-requires extent-of-requires-2 is-short-requires returns)
+piece-of-spec =
+    tie.close
+    (tie.spec
+    shl-n
+    mul-m
+    add-m
+    straight-of-requires
+    straight-of-requires-2
+    with-short-requires
+    returns
+    curved-of-requires
+    curved-of-requires-2
+    with-short-requires-2
+    returns-2)

@@ -4,7 +4,7 @@ use Prim.Native.Nat.{ℕ}
 use native.Mathlib.Nat.{le-trans}
 use native.Mathlib.Omega.{arith}
 use lib.IntN.{ℤ, pos, _+ℤ_, _*ℤ_}
-use Rattle.integers.specs.Signed.{Made, arg, held, lit, widen, plus, times, back, called}
+use Rattle.integers.specs.Signed.{Made, held, lit, widen, plus, times, back, called}
 use Rattle.integers.specs.Signed.{read64}
 use Rattle.integers.specs.Whole.{rest, rest-most}
 use Rattle.model.specs.Strips.{centreTop, axisTop, straight}
@@ -15,17 +15,17 @@ use Rattle.strips.proofs.straight_of.Statement.{statement}
 use Rattle.strips.proofs.straight_of.Tie as tie
 
 module _ (s : tie.Start) where
-  a : Made (s .args .a) (s .args .a) c0Most
-  a = arg (s .pre .0) (s .fits .a)
+  a : Made (s .args .c .c0) (s .args .c .c0) c0Most
+  a = held (s .args .c .c0) (s .pre .0 .c0-size) tt
 
-  g : Made (s .args .g) (s .args .g) c1Most
-  g = arg (s .pre .1) (s .fits .g)
+  g : Made (s .args .c .c1) (s .args .c .c1) c1Most
+  g = held (s .args .c .c1) (s .pre .0 .c1-size) tt
 
   n : Made (pos (s .args .n)) (pos (s .args .n)) nMost
-  n = held (pos (s .args .n)) (s .pre .3) tt
+  n = held (pos (s .args .n)) (s .pre .2) tt
 
   m : Made (pos (s .args .m)) (pos (s .args .m)) nMost
-  m = held (pos (s .args .m)) (le-trans (s .pre .4) (s .pre .3)) tt
+  m = held (pos (s .args .m)) (le-trans (s .pre .3) (s .pre .2)) tt
 
 cast-p : tie.Need-cast-p
 cast-p c = search needs
@@ -34,30 +34,31 @@ cast-q : tie.Need-cast-q
 cast-q c = search needs
 
 mul-rounded : tie.Need-mul-rounded
-mul-rounded c = (times (a c) (n c) tt) .fits
+mul-rounded c = let s = c .before .before in (times (a s) (n s) tt) .fits
 
 mul-rounded-2 : tie.Need-mul-rounded-2
-mul-rounded-2 c = (times (g c) (m c) tt) .fits
+mul-rounded-2 c = let s = c .before .before in (times (g s) (m s) tt) .fits
 
 add-rounded : tie.Need-add-rounded
-add-rounded c = (plus (times (a c) (n c) tt) (times (g c) (m c) tt) tt) .fits
+add-rounded c = let s = c .before .before in (plus (times (a s) (n s) tt) (times (g s) (m s) tt) tt) .fits
 
 mul-rounded-3 : tie.Need-mul-rounded-3
-mul-rounded-3 c = (times (lit 16 tt) (plus (times (a c) (n c) tt) (times (g c) (m c) tt) tt) tt) .fits
+mul-rounded-3 c = let s = c .before .before in (times (lit 16 tt) (plus (times (a s) (n s) tt) (times (g s) (m s) tt) tt) tt) .fits
 
 rounded-requires : tie.Need-rounded-requires
 rounded-requires c κs =
-    let t = times (lit 16 tt) (plus (times (a c) (n c) tt) (times (g c) (m c) tt) tt) tt in
-    rw (back t, back (n c)) ((widen 3900000000000000000 t tt) .within, omega (arith, c .pre .3), omega (arith, c .pre .2), tt)
+    let s = c .before .before in
+    let t = times (lit 16 tt) (plus (times (a s) (n s) tt) (times (g s) (m s) tt) tt) tt in
+    rw (back t, back (n s)) ((widen 3900000000000000000 t tt) .within, omega (arith, s .pre .2), omega (arith, s .pre .1), tt)
 
 mul-rounded-4 : tie.Need-mul-rounded-4
-mul-rounded-4 c = (times (lit 16 tt) (g (c .before)) tt) .fits
+mul-rounded-4 c = (times (lit 16 tt) (g (c .before .before .before)) tt) .fits
 
 rounded-requires-2 : tie.Need-rounded-requires-2
 rounded-requires-2 c κs =
-    let s = c .before in
+    let s = c .before .before .before in
     let t = times (lit 16 tt) (g s) tt in
-    rw (back t, back (n s)) ((widen 3900000000000000000 t tt) .within, omega (arith, s .pre .3), omega (arith, s .pre .2), tt)
+    rw (back t, back (n s)) ((widen 3900000000000000000 t tt) .within, omega (arith, s .pre .2), omega (arith, s .pre .1), tt)
 
 slack-requires : tie.Need-slack-requires
 slack-requires c κs = search needs
@@ -71,13 +72,13 @@ slackly z k e f = called (e ∙ ap pos (sym f)) (rest-most z k) tt
 
 module _ (c : tie.After-slack2) where
   abbrev start : tie.Start
-  start = c .before .before .before .before
+  start = c .before .before .before .before .before .before
 
   abbrev A : ℤ
-  A = centreTop (start .args .a) (start .args .g) (pos (start .args .n)) (pos (start .args .m))
+  A = centreTop (start .args .c .c0) (start .args .c .c1) (pos (start .args .n)) (pos (start .args .m))
 
   abbrev B : ℤ
-  B = axisTop (start .args .g)
+  B = axisTop (start .args .c .c1)
 
   of-centre : Made (c .before .slack .result) (pos (rest A (start .args .n))) 1
   of-centre =
@@ -99,7 +100,7 @@ returns c =
     let second = b .before .before .rounded2 in
     let e = rw (back (times (lit 16 tt) (plus (times (a s) (n s) tt) (times (g s) (m s) tt) tt) tt), back (n s)) at (first .ensures .0) in
     let f = rw (back (times (lit 16 tt) (g s) tt), back (n s)) at (second .ensures .0) in
-    side-eq (read64 (first .result .nearest) (c .before .struct-told .given .0 .1) ∙ e) (read64 (second .result .nearest) (c .struct-told2 .given .0 .1) ∙ f) (back (plus (of-centre b) (of-axis b) tt))
+    side-eq (read64 (first .result .nearest) (c .before .struct-told3 .given .0 .1) ∙ e) (read64 (second .result .nearest) (c .struct-told4 .given .0 .1) ∙ f) (back (plus (of-centre b) (of-axis b) tt))
 
 pub straight-of-spec : {M : Type 1} → statement M
 straight-of-spec =
