@@ -92,17 +92,17 @@ struct Side {
 impl Side {
     /// The coefficient `axis` belongs to the parameter itself, which x and y
     /// share; `second` and `third` belong to the noise symbols that stand for
-    /// the rests of its square and cube. Both are taken at full swing, and 2
-    /// makes up for four roundings of a half.
+    /// the rests of its square and cube. Both are taken at full swing, and the
+    /// pad makes up for the roundings.
     fn of_cubic(controls: [i32; 4], piece: Piece) -> Side {
         let [a0, a1, a2, a3] = shifted_coefficients(controls, piece);
         let cube = steps(piece).pow(3);
-        let second = nearest(8 * a2, cube);
-        let third = nearest(4 * a3, cube);
+        let numerators = [16 * a0 + 8 * a2, 16 * a1 + 12 * a3, 8 * a2, 4 * a3];
+        let [centre, axis, second, third] = numerators.map(|number| nearest(number, cube));
         Side {
-            centre: nearest(16 * a0 + 8 * a2, cube),
-            axis: nearest(16 * a1 + 12 * a3, cube),
-            half_box: second.abs() + third.abs() + 2,
+            centre,
+            axis,
+            half_box: second.abs() + third.abs() + cubic_pad(remainders(&numerators, cube)),
         }
     }
 
@@ -113,13 +113,25 @@ impl Side {
         let n = steps(piece);
         let middle = 16 * (first * n + (second - first) * middle_step(piece));
         let half = 16 * (second - first);
-        let roundings = [middle, half].map(|numerator| i64::from(numerator % n != 0));
         Side {
             centre: nearest(middle, n),
             axis: nearest(half, n),
-            half_box: roundings.iter().sum(),
+            half_box: remainders(&[middle, half], n),
         }
     }
+}
+
+/// How many of these quotients leave a remainder. A whole one is not rounded,
+/// so it needs nothing made up.
+fn remainders(numerators: &[i128], denominator: i128) -> i64 {
+    let leaves_one = |&&number: &&i128| number % denominator != 0;
+    numerators.iter().filter(leaves_one).count() as i64
+}
+
+/// Each rounding is off by a half at most, and a box is whole: half the count
+/// of a cubic's remainders, up to the next whole number.
+fn cubic_pad(remainders: i64) -> i64 {
+    (remainders + 1) / 2
 }
 
 /// The half steps of the parameter at a piece's depth.
@@ -158,12 +170,26 @@ fn nearest(numerator: i128, denominator: i128) -> i64 {
 
 #[cfg(test)]
 mod tests {
-    use super::nearest;
+    use super::{cubic_pad, nearest, remainders};
 
     #[test]
     fn halves_go_up_on_both_sides_of_zero() {
         let quarters = [-8, -7, -6, -5, -4, -3, -2, -1, 0, 1, 2, 3, 4, 5, 6, 7, 8];
         let wanted = [-2, -2, -1, -1, -1, -1, 0, 0, 0, 0, 1, 1, 1, 1, 2, 2, 2];
         assert_eq!(quarters.map(|number| nearest(number, 4)), wanted);
+    }
+
+    #[test]
+    fn remainders_on_both_sides_of_zero() {
+        let count = |number| remainders(&[number], 4);
+        assert_eq!([-8, -4, 0, 4, 8].map(count), [0; 5]);
+        assert_eq!([-7, -6, -5, -3, -1, 1, 2, 3, 5].map(count), [1; 9]);
+        assert_eq!(remainders(&[-8, -7, 0, 6, 1], 4), 3);
+        assert_eq!(remainders(&[], 4), 0);
+    }
+
+    #[test]
+    fn a_pad_is_half_the_remainders_and_goes_up() {
+        assert_eq!([0, 1, 2, 3, 4].map(cubic_pad), [0, 1, 1, 2, 2]);
     }
 }
