@@ -4,8 +4,9 @@ mod common;
 
 use clearance_reference::{Edge, Job, Refusal};
 use common::brute_force::{fault, outline_points, sights, Sight};
-use common::jobs::random_job;
+use common::jobs::{coarse_job, random_job};
 use common::random::Xorshift;
+use common::reckoning::remainder_counts;
 use common::{edge, finished, job_with, line};
 
 /// How often each letter stands in a map: C, I, D.
@@ -46,21 +47,25 @@ fn check_random_jobs(seed: u64, jobs: usize, spread: i32, wanted: fn(&Job) -> bo
     let mut rng = Xorshift::new(seed);
     let mut totals = Totals::default();
     for _ in 0..jobs {
-        let job = next_job(&mut rng, spread, wanted);
-        match finished(&job) {
-            Err(refusal) => assert_eq!(refusal, Refusal::Long),
-            Ok(done) => {
-                let seen = sights(&job, &outline_points(&job));
-                assert_eq!(fault(&job, &seen, &done.letters), None, "{job:?}");
-                check_that_opposites_fail(&job, &seen, &done.letters);
-                totals.add(&job, &done.letters);
-            }
-        }
+        totals.check_job(&next_job(&mut rng, spread, wanted));
     }
     totals
 }
 
 impl Totals {
+    /// Checks a job's map, if it has one, and counts it.
+    fn check_job(&mut self, job: &Job) {
+        match finished(job) {
+            Err(refusal) => assert_eq!(refusal, Refusal::Long),
+            Ok(done) => {
+                let seen = sights(job, &outline_points(job));
+                assert_eq!(fault(job, &seen, &done.letters), None, "{job:?}");
+                check_that_opposites_fail(job, &seen, &done.letters);
+                self.add(job, &done.letters);
+            }
+        }
+    }
+
     fn add(&mut self, job: &Job, letters: &[u8]) {
         let counts = tally(letters);
         self.maps += 1;
@@ -112,6 +117,25 @@ fn random_maps_of_lines_meet_demand_three() {
 fn random_maps_that_mix_both_kinds_meet_demand_three() {
     let is_mixed = |job: &Job| (1..job.count).contains(&lines(job));
     check_random_jobs(0x3d_7a19, 1_000, 4, is_mixed).check(800, 5_000, 2_000);
+}
+
+/// Small jobs in coarse numbers, whose strips for the most part have no pad, so
+/// that nothing but the exact figures keeps the letters right.
+#[test]
+fn random_maps_of_exact_strips_meet_demand_three() {
+    let mut rng = Xorshift::new(0x40_40c0);
+    let mut totals = Totals::default();
+    let mut remainders = [0; 5];
+    for _ in 0..1_000 {
+        let job = coarse_job(&mut rng, 4);
+        let counts = remainder_counts(&job);
+        remainders = std::array::from_fn(|count| remainders[count] + counts[count]);
+        totals.check_job(&job);
+    }
+    totals.check(999, 5_000, 800);
+    let [exact, ..] = remainders;
+    let padded: usize = remainders[1..].iter().sum();
+    assert!(exact > 3 * padded && padded > 1_000, "{remainders:?}");
 }
 
 /// Two far edges on a wide plate.

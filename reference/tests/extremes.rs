@@ -7,6 +7,7 @@ use clearance_reference::strips::{Piece, Strip};
 use clearance_reference::{map, point, write, Edge, Job, Refusal, COORDINATE_LIMIT};
 use common::finished;
 use common::random::Xorshift;
+use common::reckoning::check_strip;
 
 const LIMIT: i32 = COORDINATE_LIMIT;
 
@@ -92,7 +93,7 @@ fn strips_of_any_numbers() {
         let mut piece = Piece::WHOLE;
         while let Some(halves) = piece.halves() {
             let strip = Strip::of(&Edge::Cubic(numbers), piece);
-            assert!(strip.half_box.iter().all(|&half| half >= 2));
+            check_strip(&Edge::Cubic(numbers), piece, &strip);
             let [x0, y0, x1, y1, ..] = numbers;
             let straight = Strip::of(&Edge::Line([x0, y0, x1, y1]), piece);
             assert!(straight.half_box.iter().all(|half| [0, 2].contains(half)));

@@ -22,62 +22,75 @@ fn whole_in_x(controls: [i32; 4]) -> (i64, i64, i64) {
     let strip = Strip::of(&edge(controls, [0; 4]), Piece::WHOLE);
     assert_eq!(
         (strip.centre[1], strip.axis[1], strip.half_box[1]),
-        (0, 0, 2)
+        (0, 0, 0)
     );
     (strip.centre[0], strip.axis[0], strip.half_box[0])
 }
 
+/// In x the power form is 12 t², in y it is 12 t, and no quotient of the three
+/// pieces has a remainder: the boxes are the second quotients, 24 and 6.
 #[test]
 fn the_bend_and_its_halves() {
     let bend = edge(BEND_X, BEND_Y);
     let whole = Strip::of(&bend, Piece::WHOLE);
-    assert_eq!(whole, strip([72, 96], [96, 96], [26, 2]));
+    assert_eq!(whole, strip([72, 96], [96, 96], [24, 0]));
     let halves = Piece::WHOLE.halves().unwrap();
     let [left, right] = halves.map(|half| Strip::of(&bend, half));
-    assert_eq!(left, strip([18, 48], [24, 48], [8, 2]));
-    assert_eq!(right, strip([114, 144], [72, 48], [8, 2]));
+    assert_eq!(left, strip([18, 48], [24, 48], [6, 0]));
+    assert_eq!(right, strip([114, 144], [72, 48], [6, 0]));
 }
 
+/// Its half sides are 96 + 24 and 96, and 120 is at most 16 * 8 = 128.
 #[test]
 fn the_bend_is_a_leaf_at_grain_8() {
     let done = finished(&job_with(&[edge(BEND_X, BEND_Y)], 8)).unwrap();
     assert_eq!(done.nodes, 1);
-    assert_eq!(done.store, [72, 96, 96, 96, 26, 2, 1]);
+    assert_eq!(done.store, [72, 96, 96, 96, 24, 0, 1]);
 }
 
+/// 120 exceeds 16 * 7 = 112; of the halves the right one is larger, 72 + 6.
 #[test]
 fn the_bend_halves_at_grain_7() {
     let done = finished(&job_with(&[edge(BEND_X, BEND_Y)], 7)).unwrap();
     assert_eq!(done.nodes, 3);
     let wanted = [
-        [72, 96, 96, 96, 26, 2, 3],
-        [18, 48, 24, 48, 8, 2, 1],
-        [114, 144, 72, 48, 8, 2, 1],
+        [72, 96, 96, 96, 24, 0, 3],
+        [18, 48, 24, 48, 6, 0, 1],
+        [114, 144, 72, 48, 6, 0, 1],
     ];
     assert_eq!(done.store, wanted.as_flattened());
 }
 
+/// With 32 the quotients are 160, 240, 96 and 16, all whole. A thirty-second
+/// of them is 5, 15/2, 3 and 1/2: two remainders, so a pad of 1.
 #[test]
 fn whole_pieces_in_one_coordinate() {
-    assert_eq!(whole_in_x([0, 0, 0, 32]), (160, 240, 114));
-    assert_eq!(whole_in_x([0, 0, 0, 1]), (5, 8, 6));
-    assert_eq!(whole_in_x([0, 0, 0, -1]), (-5, -7, 5));
+    assert_eq!(whole_in_x([0, 0, 0, 32]), (160, 240, 96 + 16));
+    assert_eq!(whole_in_x([0, 0, 0, 1]), (5, 8, 3 + 1 + 1));
+    assert_eq!(whole_in_x([0, 0, 0, -1]), (-5, -7, 3 + 1));
 }
 
+/// At depth 10 the axis is 15,999,984/2,048, just above 7,812, and the centre an
+/// odd multiple of it: two remainders, and 7,812 + 1 lies between 16 * 488 and
+/// 16 * 489. At depth 9 the axis is twice as long.
 #[test]
 fn the_long_edge_needs_grain_489() {
+    let last = (0..10).fold(Piece::WHOLE, |piece, _| piece.halves().unwrap()[1]);
+    let wanted = strip([15_992_172, 0], [7_812, 0], [1, 0]);
+    assert_eq!(Strip::of(&long_edge(), last), wanted);
     let accepted = finished(&job_with(&[long_edge()], 489)).unwrap();
     assert_eq!(accepted.nodes, 2_047);
     let refused = finished(&job_with(&[long_edge()], 488));
     assert_eq!(refused.err(), Some(Refusal::Long));
 }
 
+/// The strip is the point itself, (48, 64) fine units from the spot.
 #[test]
 fn the_point_edge_asked_at_3_4() {
     let job = sample_job();
     let done = finished(&job).unwrap();
     let nearest = point(&job, 3, 4, &done.store).unwrap();
-    assert_eq!((nearest.lo, nearest.hi, nearest.edge), (5_960, 6_856, 0));
+    assert_eq!((nearest.lo, nearest.hi, nearest.edge), (6_400, 6_400, 0));
 }
 
 #[test]

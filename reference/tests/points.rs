@@ -130,6 +130,7 @@ fn another_job_with_the_same_trees_is_no_stranger() {
     assert_eq!(point(&moved, 3, 3, &store), Err(Refusal::Stranger));
 }
 
+/// A point edge has no box, so at the edge itself both bounds are 0.
 #[test]
 fn equal_edges_name_the_first() {
     let far = point_edge(50);
@@ -138,7 +139,7 @@ fn equal_edges_name_the_first() {
     let store = finished(&job).unwrap().store;
     let wanted = Nearest {
         lo: 0,
-        hi: 8,
+        hi: 0,
         edge: 1,
     };
     assert_eq!(point(&job, 3, 3, &store), Ok(wanted));

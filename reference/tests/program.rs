@@ -41,11 +41,11 @@ fn the_sample() {
     assert_eq!(printed(&["map"], SAMPLE_SHEET), SAMPLE_MAP);
     assert_eq!(printed(&["write"], SAMPLE_SHEET), SAMPLE_SHEET);
     let store = printed(&["store"], SAMPLE_SHEET);
-    assert_eq!(store, "(store 1\n0 0 0 0 2 2 1\n)\n");
+    assert_eq!(store, "(store 1\n0 0 0 0 0 0 1\n)\n");
     let point = printed(&["point", "3", "4"], SAMPLE_SHEET);
-    assert_eq!(point, "(point 5960 6856 0)\n");
+    assert_eq!(point, "(point 6400 6400 0)\n");
     let point = printed(&["point", "-3", "-4"], SAMPLE_SHEET);
-    assert_eq!(point, "(point 5960 6856 0)\n");
+    assert_eq!(point, "(point 6400 6400 0)\n");
 }
 
 #[test]

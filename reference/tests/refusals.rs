@@ -4,7 +4,8 @@ mod common;
 
 use clearance_reference::Refusal::{Cell, Edges, Form, Long, Range, Space, Store, Stranger};
 use clearance_reference::{judge, map, point, read, write, Job, Refusal};
-use common::{finished, job_with, long_edge, point_edge, sample_job, SAMPLE_SHEET};
+use common::{edge, finished, job_with, just_short_edge, long_edge};
+use common::{point_edge, sample_job, SAMPLE_SHEET};
 
 const EDGE_LINE: &str = "(edge (0 0) (0 0) (0 0) (0 0))\n";
 
@@ -33,7 +34,7 @@ fn check_job(job: &Job, refusal: Refusal) {
         "{job:?}"
     );
     assert_eq!(map(job, &mut [], &mut []), Err(refusal));
-    assert_eq!(point(job, 0, 0, &[0, 0, 0, 0, 2, 2, 1]), Err(refusal));
+    assert_eq!(point(job, 0, 0, &[0, 0, 0, 0, 0, 0, 1]), Err(refusal));
     assert_eq!(point(job, 0, 0, &[]), Err(refusal));
 }
 
@@ -268,7 +269,7 @@ fn the_exponents_of_a_job() {
 
 #[test]
 fn the_spot_of_a_point() {
-    let store = [0, 0, 0, 0, 2, 2, 1];
+    let store = [0, 0, 0, 0, 0, 0, 1];
     let spots = [
         (1_000_001, 0),
         (-1_000_001, 0),
@@ -316,6 +317,39 @@ fn long_before_store_before_space() {
     assert_eq!(needed, 14_329);
     assert_eq!(map(&deep, &mut vec![0; needed - 1], &mut []), Err(Store));
     assert_eq!(map(&deep, &mut vec![0; needed], &mut []), Err(Space));
+}
+
+/// At depth 10 the axis is 98,304/2,048 = 48 and the centre an odd multiple of
+/// it, both whole, so the box is 0 and 48 fine units are what grain 3 allows.
+/// All the pieces of lesser depth are longer.
+#[test]
+fn pieces_that_just_fit_are_not_long() {
+    let done = finished(&job_with(&[just_short_edge()], 3)).unwrap();
+    assert_eq!((done.nodes, done.store[6]), (2_047, 2_047));
+    assert_eq!(done.store[..6], [49_152, 0, 49_152, 0, 0, 0]);
+    assert_eq!(done.store[70..77], [48, 0, 48, 0, 0, 0, 1]);
+    assert_eq!(done.store[14_322..], [98_256, 0, 48, 0, 0, 0, 1]);
+
+    let long = job_with(&[just_short_edge()], 2);
+    assert_eq!(map(&long, &mut [0; 20_000], &mut [0; 64]), Err(Long));
+    assert_eq!(point(&long, 0, 0, &done.store), Err(Long));
+    // Twice the length halves down the same way to 96, too much for grain 5.
+    let twice = |grain| finished(&job_with(&[edge([0, 4_096, 8_192, 12_288], [0; 4])], grain));
+    assert_eq!(twice(6).unwrap().nodes, 2_047);
+    assert_eq!(twice(5).err(), Some(Long));
+}
+
+/// A store drawn with other pads is not the job's any more.
+#[test]
+fn a_store_with_other_pads_is_a_stranger() {
+    let job = job_with(&[edge([0, 0, 4, 12], [0, 4, 8, 12])], 8);
+    assert!(point(&job, 0, 0, &[72, 96, 96, 96, 24, 0, 1]).is_ok());
+    let padded = [72, 96, 96, 96, 26, 2, 1];
+    assert_eq!(point(&job, 0, 0, &padded), Err(Stranger));
+    assert_eq!(
+        point(&sample_job(), 0, 0, &[0, 0, 0, 0, 2, 2, 1]),
+        Err(Stranger)
+    );
 }
 
 #[test]

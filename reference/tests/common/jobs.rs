@@ -105,6 +105,35 @@ pub fn random_job(rng: &mut Xorshift, spread: i32) -> Job {
     job
 }
 
+/// A legal job of a few cubics in multiples of 64, with a grain as coarse: most
+/// of its strips are exact, and equal lengths are common.
+pub fn coarse_job(rng: &mut Xorshift, spread: i32) -> Job {
+    const UNIT: i32 = 64;
+    const CUBICS: [Shape; 7] = [
+        Shape::Point,
+        Shape::StraightCubic,
+        Shape::FoldedCubic,
+        Shape::Cusp,
+        Shape::Loop,
+        Shape::Closed,
+        Shape::Wiggle,
+    ];
+    let units = rng.choose(&[1, 2, 4, 8]);
+    let middle = [rng.between(-99, 99), rng.between(-99, 99)];
+    let mut job = Job::ZERO;
+    for _ in 0..rng.choose(&[1, 1, 2, 3]) {
+        let shape = rng.choose(&CUBICS);
+        let edge = random_edge(rng, shape, units, middle);
+        job.add(&Edge::Cubic(edge.place().map(|number| UNIT * number)));
+    }
+    let size = UNIT * units;
+    lay_plate(rng, &mut job, size, middle.map(|m| UNIT * m), spread);
+    job.reach = 8 * rng.between(1, 24 * units);
+    job.grain = size / rng.choose(&[1, 1, 2, 3]);
+    assert_eq!(judge(&job), Ok(()));
+    job
+}
+
 fn lay_plate(rng: &mut Xorshift, job: &mut Job, size: i32, middle: [i32; 2], spread: i32) {
     let exponent = size.ilog2() as i32;
     job.n = rng.between(exponent - 1, exponent + 3).clamp(0, 20);

@@ -1,5 +1,5 @@
-//! What the tests share: a generator of numbers, jobs of many shapes, and the
-//! exact check of a finished map.
+//! What the tests share: a generator of numbers, jobs of many shapes, a second
+//! way to a cubic's strip, and the exact check of a finished map.
 
 // Each test file uses its own part of this.
 #![allow(dead_code)]
@@ -7,7 +7,9 @@
 pub mod brute_force;
 pub mod jobs;
 pub mod random;
+pub mod reckoning;
 
+use clearance_reference::strips::Piece;
 use clearance_reference::{map, trees, Edge, Job, Refusal};
 
 /// The sample sheet.
@@ -78,6 +80,21 @@ pub fn line(ends: [i32; 4]) -> Edge {
 /// A straight cubic that is long at grain 488 and accepted at 489.
 pub fn long_edge() -> Edge {
     edge([0, 333_333, 666_666, 999_999], [0; 4])
+}
+
+/// A straight cubic whose pieces of depth 10 are as long as grain 3 lets them
+/// be, to the fine unit, and have no remainder.
+pub fn just_short_edge() -> Edge {
+    edge([0, 2_048, 4_096, 6_144], [0; 4])
+}
+
+/// The piece of this depth and index; the index's bits lead to it.
+pub fn piece_at(depth: u32, index: u32) -> Piece {
+    let piece = (0..depth).rev().fold(Piece::WHOLE, |piece, level| {
+        piece.halves().unwrap()[(index >> level & 1) as usize]
+    });
+    assert_eq!((piece.depth(), piece.index()), (depth, index));
+    piece
 }
 
 /// A finished map and its store.
