@@ -38,6 +38,7 @@ def line_span(ends, depth, k):
 
 
 def cubic_span(controls, depth, k):
+    """By affine arithmetic; half the quotients that are not whole, rounded up, pads the box."""
     b0, b1, b2, b3 = controls
     c1, c2, c3 = 3 * (b1 - b0), 3 * (b0 - 2 * b1 + b2), b3 - 3 * b2 + 3 * b1 - b0
     n, m = 2 << depth, 2 * k + 1
@@ -45,8 +46,10 @@ def cubic_span(controls, depth, k):
     a0 = b0 * cube + c1 * n * n * m + c2 * n * m * m + c3 * m * m * m
     a1 = c1 * n * n + 2 * c2 * n * m + 3 * c3 * m * m
     a2 = c2 * n + 3 * c3 * m
-    half = abs(nearest(8 * a2, cube)) + abs(nearest(4 * c3, cube)) + 2
-    return nearest(16 * a0 + 8 * a2, cube), nearest(16 * a1 + 12 * c3, cube), half
+    numerators = 16 * a0 + 8 * a2, 16 * a1 + 12 * c3, 8 * a2, 4 * c3
+    centre, axis, second, third = (nearest(numerator, cube) for numerator in numerators)
+    remainders = sum(numerator % cube != 0 for numerator in numerators)
+    return centre, axis, abs(second) + abs(third) + (remainders + 1) // 2
 
 
 def least_short_grain(edge, depth, k):

@@ -102,12 +102,16 @@ impl Ground {
     }
 
     /// A random edge of this shape here, a cubic or a line, its numbers kept in
-    /// range.
+    /// range. In x and in y by itself its control points are a step apart, or
+    /// several: the coarser the step, the more quotients have no remainder.
     pub fn edge(&self, random: &mut Random, shape: Shape, line: bool) -> Edge {
         let points = self.control_points(random, shape);
+        let steps = [0, 1].map(|_| self.step(random));
         let mut numbers = [0; PLACE];
         for (index, number) in numbers.iter_mut().enumerate() {
-            let free = points[index / 2][index % 2].saturating_add(self.middle[index % 2]);
+            let [point, c] = [index / 2, index % 2];
+            let coarse = points[point][c] / steps[c] * steps[c];
+            let free = coarse.saturating_add(self.middle[c]);
             *number = free.clamp(-COORDINATE_LIMIT, COORDINATE_LIMIT);
         }
         let [x0, y0, .., x3, y3] = numbers;
@@ -116,6 +120,14 @@ impl Ground {
         } else {
             Edge::Cubic(numbers)
         }
+    }
+
+    /// 1, or as often a power of two up to the size.
+    fn step(&self, random: &mut Random) -> i32 {
+        if random.once_in(2) {
+            return 1;
+        }
+        1 << random.between(0, self.size.ilog2() as i32)
     }
 
     fn control_points(&self, random: &mut Random, shape: Shape) -> [[i32; 2]; 4] {

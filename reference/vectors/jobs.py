@@ -90,6 +90,29 @@ def lines():
     case("straight_long", -8, -8, 4, 1, 4, 1, [[-1000000, 0, 1000000, 0]])
 
 
+def cubic(x, y):
+    """A cubic by its numbers in x and in y."""
+    return [number for pair in zip(x, y) for number in pair]
+
+
+def pads():
+    """Cubics by how many of a piece's four quotients have a remainder."""
+    case("pad_of_halves_alone", -16, -16, 5, 1, 5, 1, [cubic([0, 0, 1, 3], [0, 0, -1, -3])])
+    case("pad_in_y_alone", -16, -16, 5, 1, 5, 1, [cubic([0, 0, 4, 12], [0, 0, 0, 1])])
+    case("pad_in_x_alone", -16, -16, 5, 1, 5, 8, [cubic([0, 0, 0, 1], [0, 0, 4, 12])])
+    case("pad_none", -16, -16, 5, 1, 5, 7, [cubic([0, 0, 4, 12], [0, 4, 8, 12]), cubic([0, 0, -4, -12], [0, -4, -8, -12])])
+    case("pad_below_zero", -16, -16, 5, 1, 5, 8, [cubic([0, 0, -4, -12], [0, 0, 0, -1]), cubic([0, -1, -2, -3], [0, 0, 0, -32])])
+    case("pad_of_two", -8, -8, 5, 1, 6, 1, [cubic([0, 0, 0, 1], [0, 0, 0, -1]), cubic([-9, 2, 3, -6], [-1, 0, -5, 0])])
+    case("pad_of_three", -16, -16, 5, 1, 4, 1,
+         [cubic([-18, 2, 6, -6], [-3, 4, 2, -1]), cubic([4, -2, -3, 1], [-18, 2, 6, -6]),
+          cubic([-18, 2, 6, -6], [4, -9, 9, -6]), cubic([2, -3, -1, 0], [6, -2, -2, 6])])
+    case("pad_of_four", -16, -16, 5, 1, 5, 1, [cubic([-3, 1, 0, 0], [3, -1, 0, 0]), cubic([1, 0, 2, -1], [-1, 0, -2, 1])])
+    case("pad_coarse", -256, -256, 10, 4, 96, 8, [cubic([64, 128, -192, 256], [0, 320, 320, -64])])
+    just = cubic([0, 2048, 4096, 6144], [0] * 4)
+    case("pad_none_just_short", -8, -8, 4, 1, 4, 3, [just])
+    case("pad_none_long", -8, -8, 4, 1, 4, 2, [just])
+
+
 def store(crate, names):
     data = TOP / "crates" / crate / "data"
     data.mkdir(parents=True, exist_ok=True)
@@ -101,7 +124,7 @@ def store(crate, names):
 
 
 def main():
-    for group in (shapes, plates, extremes, refused, random_jobs, lines):
+    for group in (shapes, plates, extremes, refused, random_jobs, lines, pads):
         group()
     small = list(cases)
     straight = [0, 0, 333333, 0, 666666, 0, 999999, 0]

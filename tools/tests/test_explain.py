@@ -19,12 +19,22 @@ def with_edges(edges, grain=b"1"):
 class Strips(unittest.TestCase):
     def test_figures(self):
         x, y = (0, 0, 4, 12), (0, 4, 8, 12)
-        self.assertEqual([strips.span(b, 0, 0) for b in (x, y)], [(72, 96, 26), (96, 96, 2)])
-        self.assertEqual([strips.span(b, 1, 0) for b in (x, y)], [(18, 24, 8), (48, 48, 2)])
-        self.assertEqual([strips.span(b, 1, 1) for b in (x, y)], [(114, 72, 8), (144, 48, 2)])
-        self.assertEqual(strips.span((0, 0, 0, 32), 0, 0), (160, 240, 114))
-        self.assertEqual(strips.span((0, 0, 0, 1), 0, 0), (5, 8, 6))
-        self.assertEqual(strips.span((0, 0, 0, -1), 0, 0), (-5, -7, 5))
+        self.assertEqual([strips.span(b, 0, 0) for b in (x, y)], [(72, 96, 24), (96, 96, 0)])
+        self.assertEqual([strips.span(b, 1, 0) for b in (x, y)], [(18, 24, 6), (48, 48, 0)])
+        self.assertEqual([strips.span(b, 1, 1) for b in (x, y)], [(114, 72, 6), (144, 48, 0)])
+        self.assertEqual(strips.span((0, 0, 0, 32), 0, 0), (160, 240, 112))
+        self.assertEqual(strips.span((0, 0, 0, 1), 0, 0), (5, 8, 5))
+        self.assertEqual(strips.span((0, 0, 0, -1), 0, 0), (-5, -7, 4))
+
+    def test_pads(self):
+        # None of the quotients has a remainder, two have one, three, and all four.
+        self.assertEqual(strips.span((-18, 2, 6, -6), 2, 0), (-186, 96, 6))
+        self.assertEqual(strips.span((0, 1, 2, 3), 4, 9), (29, 2, 1))
+        self.assertEqual(strips.span((-3, 4, 2, -1), 2, 0), (-15, 29, 3 + 2))
+        self.assertEqual(strips.span((-3, 1, 0, 0), 2, 0), (-29, 17, 2 + 2))
+        just = (0, 0, 2_048, 0, 4_096, 0, 6_144, 0)
+        self.assertEqual(strips.least_grain(strips.tree(just, 2)), 3)
+        self.assertEqual(strips.node_count(strips.tree(just, 3), 3), 2_047)
 
     def test_lines(self):
         self.assertEqual([strips.span(ends, 0, 0) for ends in ((0, 12), (0, -7))], [(96, 96, 0), (-56, -56, 0)])

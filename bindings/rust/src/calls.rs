@@ -69,7 +69,7 @@ pub fn write(job: &Job, out: &mut [u8]) -> Result<usize, Refusal> {
 /// let job = read(b"(job\n(plate 0 0 1)\n(cell 0)\n(reach 90)\n(edge (0 0) (0 0) (0 0) (0 0))\n)\n")?;
 /// let (mut store, mut cells) = ([0; 7], [0; 4]);
 /// assert_eq!(map(&job, &mut store, &mut cells), Ok(1));
-/// assert_eq!(store, [0, 0, 0, 0, 2, 2, 1]);
+/// assert_eq!(store, [0, 0, 0, 0, 0, 0, 1]);
 /// assert_eq!(&cells, b"IIII");
 /// assert_eq!(map(&job, &mut store[1..], &mut cells), Err(Refusal::Store));
 /// # Ok::<(), Refusal>(())
@@ -102,7 +102,7 @@ pub fn map(job: &Job, store: &mut [i32], cells: &mut [u8]) -> Result<usize, Refu
 /// let (mut store, mut cells) = ([0; 7], [0; 4]);
 /// assert_eq!(point(&job, 3, 4, &store), Err(Refusal::Stranger));
 /// map(&job, &mut store, &mut cells)?;
-/// assert_eq!(point(&job, 3, 4, &store)?.hi, 6856);
+/// assert_eq!(point(&job, 3, 4, &store)?.hi, 6400);
 /// # Ok::<(), Refusal>(())
 /// ```
 pub fn point(job: &Job, x: i32, y: i32, store: &[i32]) -> Result<Nearest, Refusal> {

@@ -24,7 +24,7 @@
 //! assert_eq!(rows[3], b"CDDIIDDC");
 //!
 //! let nearest = clearance::point(&job, 3, 4, &store)?;
-//! assert_eq!((nearest.lo, nearest.hi, nearest.edge), (5960, 6856, 0));
+//! assert_eq!((nearest.lo, nearest.hi, nearest.edge), (6400, 6400, 0));
 //! # Ok::<(), clearance::Refusal>(())
 //! ```
 

@@ -81,14 +81,14 @@ abbrev pub long : ℤ → Job
 long m = job (pos 0) (pos 0) (pos 1) m (pos 1) (pos 1) 1 (pos 0 ∷ pos 0 ∷ pos 333333 ∷ pos 0 ∷ pos 666666 ∷ pos 0 ∷ pos 999999 ∷ pos 0 ∷ [])
 
 abbrev pub soundStore : List ℤ
-soundStore = pos 0 ∷ pos 0 ∷ pos 0 ∷ pos 0 ∷ pos 2 ∷ pos 2 ∷ pos 1 ∷ []
+soundStore = pos 0 ∷ pos 0 ∷ pos 0 ∷ pos 0 ∷ pos 0 ∷ pos 0 ∷ pos 1 ∷ []
 
 -- point edges at (0, 0) and (10, 7)
 abbrev pub pair : Job
 pair = job (pos 0) (pos 0) (pos 1) (pos 0) (pos 9) (pos 10) 2 (replicate 8 (pos 0) ++ (pos 10 ∷ pos 7 ∷ pos 10 ∷ pos 7 ∷ pos 10 ∷ pos 7 ∷ pos 10 ∷ pos 7 ∷ []))
 
 abbrev pub pairStore : List ℤ
-pairStore = soundStore ++ (pos 160 ∷ pos 112 ∷ pos 0 ∷ pos 0 ∷ pos 2 ∷ pos 2 ∷ pos 1 ∷ [])
+pairStore = soundStore ++ (pos 160 ∷ pos 112 ∷ pos 0 ∷ pos 0 ∷ pos 0 ∷ pos 0 ∷ pos 1 ∷ [])
 
 abbrev pub soundSheet : String
 soundSheet = "(job\n(plate 0 0 1)\n(cell 0)\n(reach 9)\n(edge (0 0) (0 0) (0 0) (0 0))\n)\n"
@@ -163,10 +163,10 @@ pointFigures =
     ∷ point-refused (long (pos 0)) (pos 0) (pos 0) [] 5
     ∷ point-refused sound (pos 0) (pos 0) (replicate 6 (pos 5)) 6
     ∷ point-refused sound (pos 0) (pos 0) (replicate 7 (pos 5)) 8
-    ∷ point-of sound (pos 3) (pos 4) (soundStore ++ (pos 5 ∷ [])) (record { refusal = 0; lo = pos 5960; hi = pos 6856; edge = 0 })
+    ∷ point-of sound (pos 3) (pos 4) (soundStore ++ (pos 5 ∷ [])) (record { refusal = 0; lo = pos 6400; hi = pos 6400; edge = 0 })
     -- the nearer of two edges, where x and y exchanged, or one of them in place of the other, would name the other edge
-    ∷ point-of pair (pos 9) (pos 1) pairStore (record { refusal = 0; lo = pos 9032; hi = pos 9928; edge = 1 })
-    ∷ point-of pair (pos 4) (pos 12) pairStore (record { refusal = 0; lo = pos 14920; hi = pos 16328; edge = 1 })
+    ∷ point-of pair (pos 9) (pos 1) pairStore (record { refusal = 0; lo = pos 9472; hi = pos 9472; edge = 1 })
+    ∷ point-of pair (pos 4) (pos 12) pairStore (record { refusal = 0; lo = pos 15616; hi = pos 15616; edge = 1 })
     ∷ point-of sound off (pos 4) soundStore (refused 3)
     ∷ point-of sound (pos 3) (pos 4) [] (refused 6)
     ∷ point-of sound (pos 3) (pos 4) (replicate 7 (pos 2)) (refused 8)

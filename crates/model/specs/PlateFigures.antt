@@ -185,7 +185,7 @@ plateFigures =
     ∷ draws 1 2 (negsuc 2) (pos 5) 2 1 (cell (pos 32) (pos 128) (pos 16)) within
     -- maps that no turn and no mirror leaves as they are
     ∷ maps (job (negsuc 2) (pos 5) (pos 3) (pos 0) (pos 2) (pos 1) 1 (negsuc 1 ∷ pos 11 ∷ negsuc 1 ∷ pos 11 ∷ negsuc 1 ∷ pos 11 ∷ negsuc 1 ∷ pos 11 ∷ [])) "CCCCCCCCCCCCCCCCCCCCCCCCDDCCCCCCDDDCCCCCIIDDCCCCIIDDCCCCDDDCCCCC"
-    ∷ maps two "IIDDDDDICDDICCDD"
+    ∷ maps two "IIDDDDDICCDICCDD"
     -- a plate of four columns ends with the fourth: what is past it is drawn as it is
     ∷ mapped-at two 3 0 doubtful
     ∷ mapped-at two 5 0 doubtful
@@ -198,19 +198,19 @@ plateFigures =
     ∷ least-of (pos 5 ∷ pos 4 ∷ pos 6 ∷ []) (pos 4)
     ∷ least-of (pos 5 ∷ pos 6 ∷ negsuc 3 ∷ []) (negsuc 3)
     -- the nearer of two edges, and either where both are as near
-    ∷ bounds two (pos 3) (pos 4) (pos 5960) (pos 6856)
+    ∷ bounds two (pos 3) (pos 4) (pos 6400) (pos 6400)
     ∷ named two (pos 3) (pos 4) 0
     ∷ not-named two (pos 3) (pos 4) 1
-    ∷ bounds two (pos 9) (pos 9) (pos 1096) (pos 1480)
+    ∷ bounds two (pos 9) (pos 9) (pos 1280) (pos 1280)
     ∷ not-named two (pos 9) (pos 9) 0
     ∷ named two (pos 9) (pos 9) 1
     ∷ not-named two (pos 9) (pos 9) 2
     ∷ named level (pos 5) (pos 0) 0
     ∷ named level (pos 5) (pos 0) 1
     -- the halves count, and not the whole
-    ∷ bounds slanted (pos 9) (pos 18) (pos 81) (pos 2746)
-    ∷ bounds slanted (pos 14) (pos 16) (pos 81) (pos 8330)
-    ∷ bounds slanted (pos 9) (pos 16) (pos 0) (pos 1274)
+    ∷ bounds slanted (pos 9) (pos 18) (pos 100) (pos 2677)
+    ∷ bounds slanted (pos 14) (pos 16) (pos 100) (pos 8149)
+    ∷ bounds slanted (pos 9) (pos 16) (pos 0) (pos 1205)
     ∷ []
 
 -- ---- the statements
@@ -235,6 +235,6 @@ pub plates-hold : AllHold Holds plateFigures
 unfolding same mapOf mapped rowMajor table drawn exploreAll explore isInside isAway₁ isAway₂ absℤ root rootBy strip curved straight sideAt tree pieces forest outline edgesFrom isZero leaves leavesAll leavesAt least
 plates-hold =
     refl and refl and refl and refl and refl and refl and refl and refl and refl and refl and refl and refl and refl and refl and refl and refl and refl and refl
-    and (refl, refl) and inl refl and apart (pos 15496) (pos 6856) tt and (refl, refl) and apart (pos 42632) (pos 1480) tt and inl refl and (λ h. h) and inl refl and inl refl
+    and (refl, refl) and inl refl and apart (pos 14848) (pos 6400) tt and (refl, refl) and apart (pos 41472) (pos 1280) tt and inl refl and (λ h. h) and inl refl and inl refl
     and (refl, refl) and (refl, refl) and (refl, refl)
     and tt

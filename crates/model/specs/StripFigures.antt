@@ -73,6 +73,17 @@ stripFigures =
     ∷ power-of (negsuc 2) 3 (negsuc 26)
     ∷ strip-of uneven 2 2 (side (pos 4787) (pos 8730) (pos 2247)) (side (negsuc 30038) (negsuc 24292) (pos 1255))
     ∷ strip-of uneven 3 5 (side (pos 8590) (pos 6527) (pos 647)) (side (negsuc 41924) (negsuc 13254) (pos 223))
+    -- three of the four quotients are not whole in one coordinate, another three each time, and none in the other
+    ∷ strip-of (edge (cubic (negsuc 17) (pos 2) (pos 6) (negsuc 5)) (cubic (negsuc 2) (pos 4) (pos 2) (negsuc 0))) 2 0 (side (negsuc 185) (pos 96) (pos 6)) (side (negsuc 14) (pos 29) (pos 5))
+    ∷ strip-of (edge (cubic (pos 4) (negsuc 1) (negsuc 2) (pos 1)) (cubic (negsuc 17) (pos 2) (pos 6) (negsuc 5))) 2 1 (side (negsuc 7) (negsuc 12) (pos 4)) (side (negsuc 41) (pos 48) (pos 6))
+    ∷ strip-of (edge (cubic (negsuc 17) (pos 2) (pos 6) (negsuc 5)) (cubic (pos 4) (negsuc 8) (pos 9) (negsuc 5))) 2 3 (side (negsuc 41) (negsuc 47) (pos 6)) (side (negsuc 37) (negsuc 47) (pos 11))
+    ∷ strip-of (edge (cubic (pos 2) (negsuc 2) (negsuc 0) (pos 0)) (cubic (pos 6) (negsuc 1) (negsuc 1) (pos 6))) 2 1 (side (negsuc 15) (negsuc 4) (pos 4)) (side (pos 9) (negsuc 11) (pos 3))
+    -- two of them, those of the centre and the second, of the axis and the third, of the centre and the axis
+    ∷ strip-of (edge (cubic (negsuc 8) (pos 2) (pos 3) (negsuc 5)) (cubic (negsuc 17) (pos 2) (pos 6) (negsuc 5))) 2 2 (side (negsuc 4) (negsuc 8) (pos 5)) (side (pos 6) (pos 0) (pos 6))
+    ∷ strip-of (edge (cubic (negsuc 17) (pos 2) (pos 6) (negsuc 5)) (cubic (negsuc 0) (pos 0) (negsuc 4) (pos 0))) 2 3 (side (negsuc 41) (negsuc 47) (pos 6)) (side (negsuc 19) (pos 17) (pos 4))
+    ∷ strip-of (edge (cubic (pos 0) (pos 1) (pos 2) (pos 3)) (cubic (pos 0) (negsuc 0) (negsuc 1) (negsuc 2))) 4 9 (side (pos 29) (pos 2) (pos 1)) (side (negsuc 27) (negsuc 0) (pos 1))
+    -- all four, above zero and below
+    ∷ strip-of (edge (cubic (pos 0) (pos 0) (pos 0) (negsuc 0)) (cubic (pos 0) (pos 0) (pos 0) (pos 1))) 1 1 (side (negsuc 7) (negsuc 6) (pos 3)) (side (pos 8) (pos 7) (pos 3))
     -- 16 fine units are a grain of 1: just short, and not, in either coordinate
     ∷ short-at (pos 1) (span (negsuc 13) (pos 0) (pos 2) (pos 2)) true
     ∷ short-at (pos 1) (span (negsuc 14) (pos 0) (pos 2) (pos 2)) false
@@ -88,9 +99,9 @@ stripFigures =
     ∷ pieces-of (pos 1) 1 15 6 (node (shown 15 6) (long (shown 16 12)) (long (shown 16 13)))
     -- left halves before right ones, at each depth
     ∷ tree-of (pos 6) leaning
-    (pos 209 ∷ pos 22 ∷ pos 305 ∷ negsuc 95 ∷ pos 129 ∷ pos 40 ∷ pos 11
-    ∷ pos 33 ∷ pos 80 ∷ pos 47 ∷ negsuc 14 ∷ pos 20 ∷ pos 16 ∷ pos 1
-    ∷ pos 330 ∷ negsuc 19 ∷ pos 269 ∷ negsuc 74 ∷ pos 43 ∷ pos 4 ∷ pos 9
+    (pos 209 ∷ pos 22 ∷ pos 305 ∷ negsuc 95 ∷ pos 128 ∷ pos 38 ∷ pos 11
+    ∷ pos 33 ∷ pos 80 ∷ pos 47 ∷ negsuc 14 ∷ pos 20 ∷ pos 15 ∷ pos 1
+    ∷ pos 330 ∷ negsuc 19 ∷ pos 269 ∷ negsuc 74 ∷ pos 43 ∷ pos 3 ∷ pos 9
     ∷ pos 186 ∷ pos 18 ∷ pos 96 ∷ negsuc 35 ∷ pos 10 ∷ pos 3 ∷ pos 3
     ∷ pos 136 ∷ pos 36 ∷ pos 40 ∷ negsuc 16 ∷ pos 4 ∷ pos 2 ∷ pos 1
     ∷ pos 232 ∷ pos 0 ∷ pos 56 ∷ negsuc 18 ∷ pos 4 ∷ pos 2 ∷ pos 1
@@ -106,10 +117,10 @@ stripFigures =
     ∷ long-of (leaf dot ∷ node dot (long dot) (leaf dot) ∷ []) true
     -- edges in their order, each with its own count
     ∷ store-of (job (pos 0) (pos 0) (pos 0) (pos 0) (pos 1) (pos 4) 2 (pos 10 ∷ pos 7 ∷ pos 10 ∷ pos 7 ∷ pos 10 ∷ pos 7 ∷ pos 10 ∷ pos 7 ∷ pos 11 ∷ pos 16 ∷ pos 6 ∷ pos 16 ∷ pos 12 ∷ pos 14 ∷ pos 13 ∷ pos 22 ∷ [])) 4
-    (pos 160 ∷ pos 112 ∷ pos 0 ∷ pos 0 ∷ pos 2 ∷ pos 2 ∷ pos 1
-    ∷ pos 174 ∷ pos 280 ∷ pos 24 ∷ pos 42 ∷ pos 28 ∷ pos 32 ∷ pos 3
-    ∷ pos 156 ∷ pos 255 ∷ negsuc 8 ∷ negsuc 0 ∷ pos 14 ∷ pos 5 ∷ pos 1
-    ∷ pos 184 ∷ pos 294 ∷ pos 27 ∷ pos 47 ∷ pos 4 ∷ pos 14 ∷ pos 1 ∷ [])
+    (pos 160 ∷ pos 112 ∷ pos 0 ∷ pos 0 ∷ pos 0 ∷ pos 0 ∷ pos 1
+    ∷ pos 174 ∷ pos 280 ∷ pos 24 ∷ pos 42 ∷ pos 26 ∷ pos 30 ∷ pos 3
+    ∷ pos 156 ∷ pos 255 ∷ negsuc 8 ∷ negsuc 0 ∷ pos 13 ∷ pos 5 ∷ pos 1
+    ∷ pos 184 ∷ pos 294 ∷ pos 27 ∷ pos 47 ∷ pos 3 ∷ pos 14 ∷ pos 1 ∷ [])
     -- a long end is a node too
     ∷ begins-with (flatten (node dot (long dot) (leaf dot))) (pos 0 ∷ pos 0 ∷ pos 0 ∷ pos 0 ∷ pos 2 ∷ pos 2 ∷ pos 3 ∷ pos 0 ∷ pos 0 ∷ pos 0 ∷ pos 0 ∷ pos 2 ∷ pos 2 ∷ pos 1 ∷ pos 0 ∷ []) true
     -- more may follow, and none may be missing or another, in its sign either
@@ -142,7 +153,8 @@ stripFigures =
 pub strips-hold : AllHold Holds stripFigures
 unfolding strip curved straight sideAt absℤ tree pieces forest outline edgesFrom isZero begins same root rootBy
 strips-hold =
-    refl and refl and refl and refl and refl and refl and refl and refl and refl and refl and refl and refl and refl and refl and refl and refl and refl
+    refl and refl and refl and refl and refl and refl and refl and refl
+    and refl and refl and refl and refl and refl and refl and refl and refl and refl and refl and refl and refl and refl and refl and refl and refl and refl
     and refl and refl and refl and refl
     and (refl, refl)
     and refl and refl and refl and refl and refl and refl and refl and refl and refl and refl

@@ -1,6 +1,6 @@
 -- RULES, "Strips": the strip of a piece of an edge, by affine arithmetic in whole numbers. Assumes nothing.
 use mathlib.Core.Bool.{Bool, _&&_}
-use Prim.Native.Nat.{ℕ, _+_, _*_, _^_}
+use Prim.Native.Nat.{ℕ, _+_, _*_, _/_, _^_}
 use lib.IntN.{ℤ, pos, _+ℤ_, _-ℤ_, _*ℤ_}
 use lib.Signed.{leZ}
 use Rattle.basics.specs.Numbers.{_^ℤ_, absℤ, nearest, rest}
@@ -56,29 +56,39 @@ pub record Strip : Type 0 where
   pub y : Side
 
 -- ---- of a cubic
--- With e² = 1/2 + (a new symbol)/2 and e³ = (3/4)·e + (another)/4, sixteen times the coordinate has four coefficients over N³, which is k
--- here. Each is rounded, by at most 1/2; the box is padded by 2, which covers all four roundings.
-abbrev pub centreOf : PowerForm → ℤ → ℤ → ℕ → ℤ
-centreOf c N m k = quotient (pos 16 *ℤ a0 c N m +ℤ pos 8 *ℤ a2 c N m) k
+-- With e² = 1/2 + (a new symbol)/2 and e³ = (3/4)·e + (another)/4, sixteen times the coordinate has four coefficients: by itself, of e, and of
+-- the two new symbols. These are their numerators over N³.
+pub record Numerators : Type 0 where
+  pub centre : ℤ
+  pub axis : ℤ
+  pub second : ℤ
+  pub third : ℤ
 
-abbrev pub axisOf : PowerForm → ℤ → ℤ → ℕ → ℤ
-axisOf c N m k = quotient (pos 16 *ℤ a1 c N m +ℤ pos 12 *ℤ a3 c) k
+abbrev pub numerators : PowerForm → ℤ → ℤ → Numerators
+numerators c N m = record {
+  centre = pos 16 *ℤ a0 c N m +ℤ pos 8 *ℤ a2 c N m;
+  axis = pos 16 *ℤ a1 c N m +ℤ pos 12 *ℤ a3 c;
+  second = pos 8 *ℤ a2 c N m;
+  third = pos 4 *ℤ a3 c;
+}
 
-abbrev pub secondOf : PowerForm → ℤ → ℤ → ℕ → ℤ
-secondOf c N m k = quotient (pos 8 *ℤ a2 c N m) k
+-- how many of the four are no multiples of k, so that their quotients by k are not whole
+abbrev pub remainders : Numerators → ℕ → ℕ
+remainders a k = rest (a .centre) k + rest (a .axis) k + rest (a .second) k + rest (a .third) k
 
-abbrev pub thirdOf : PowerForm → ℕ → ℤ
-thirdOf c k = quotient (pos 4 *ℤ a3 c) k
+-- A whole quotient is exact, and any other is rounded by at most 1/2: a half for each of them, rounded up, covers all roundings.
+abbrev pub padOf : ℕ → ℕ
+padOf r = (r + 1) / 2
 
-abbrev pub boxOf : PowerForm → ℤ → ℤ → ℕ → ℤ
-boxOf c N m k = absℤ (secondOf c N m k) +ℤ absℤ (thirdOf c k) +ℤ pos 2
+abbrev pub sideOver : Numerators → ℕ → Side
+sideOver a k = record {
+  centre = quotient (a .centre) k;
+  axis = quotient (a .axis) k;
+  box = absℤ (quotient (a .second) k) +ℤ absℤ (quotient (a .third) k) +ℤ pos (padOf (remainders a k));
+}
 
 unfoldable pub curved : PowerForm → ℕ → ℕ → Side
-curved c n m = record {
-  centre = centreOf c (pos n) (pos m) (n * n * n);
-  axis = axisOf c (pos n) (pos m) (n * n * n);
-  box = boxOf c (pos n) (pos m) (n * n * n);
-}
+curved c n m = sideOver (numerators c (pos n) (pos m)) (n * n * n)
 
 -- ---- of a line, from a by g to its second end: N times the coordinate is a·N + g·m + g·e. Sixteen times it has two coefficients over N.
 -- Where one of them is whole it is exact; where it is not, its rounding adds 1 to the box.

@@ -8,7 +8,7 @@ use lib.IntN.{ℤ, pos, natAbs, _+ℤ_, _-ℤ_, _*ℤ_}
 use lib.Signed.{nonNeg}
 use Rattle.integers.specs.Absolute.{absℤ}
 use Rattle.integers.specs.Whole.{rest-most}
-use Rattle.model.specs.Strips.{PowerForm, powerOf, denominator, a0, a1, a2, centreOf, axisOf, secondOf, thirdOf, boxOf, curved, centreTop, axisTop, straight}
+use Rattle.model.specs.Strips.{PowerForm, powerOf, denominator, a0, a1, a2, quotient, Numerators, numerators, remainders, padOf, sideOver, curved, centreTop, axisTop, straight}
 use Rattle.model.specs.Trees.{deepest}
 use Rattle.ranges.specs.Bounds.{add-in, sub-in, mul-in, nearest-in}
 use Rattle.ranges.specs.Sizes.{controlMost, CubicSized, LineSized, SideSized}
@@ -93,6 +93,13 @@ secondMost = 8 * a2Share / 4 + 1
 abbrev pub thirdMost : ℕ
 thirdMost = 4 * c3Most / 8 + 1
 
+-- four quotients at the most are not whole
+abbrev pub padMost : ℕ
+padMost = padOf 4
+
+pub pad-most : (a : Numerators) (k : ℕ) → padOf (remainders a k) ≤ padMost
+pad-most a k = omega (arith, rest-most (a .centre) k, rest-most (a .axis) k, rest-most (a .second) k, rest-most (a .third) k)
+
 -- n is at least 2, so a product with fewer factors n is at most a half, a quarter, an eighth of n³
 cubes : (n : ℕ) → 2 ≤ n → (2 * (n * n) ≤ n * n * n) × (4 * n ≤ n * n * n) × (8 ≤ n * n * n)
 cubes n h =
@@ -103,10 +110,13 @@ cubes n h =
 pub cube-above : (n : ℕ) → 2 ≤ n → 0 < n * n * n
 cube-above n h = omega (arith, cubes n h .2)
 
-sum-above : (a b : ℕ) → T (nonNeg (pos a +ℤ pos b +ℤ pos 2))
-sum-above a b = tt
+sum-above : (a b p : ℕ) → T (nonNeg (pos a +ℤ pos b +ℤ pos p))
+sum-above a b p = tt
 
 module _ (c : PowerForm) (n m : ℕ) (s : FormSized c) (h : 2 ≤ n) (k : m ≤ n) where
+  abbrev tops : Numerators
+  tops = numerators c (pos n) (pos m)
+
   a0-in : natAbs (a0 c (pos n) (pos m)) ≤ a0Share * (n * n * n)
   a0-in = le-trans
       (add-in (c .c0 *ℤ (pos n *ℤ pos n *ℤ pos n) +ℤ c .c1 *ℤ (pos n *ℤ pos n) *ℤ pos m +ℤ c .c2 *ℤ pos n *ℤ (pos m *ℤ pos m)) (c .c3 *ℤ (pos m *ℤ pos m *ℤ pos m)) (c0Most * (n * n * n) + c1Most * (n * n) * n + c2Most * n * (n * n)) (c3Most * (n * n * n))
@@ -134,7 +144,7 @@ module _ (c : PowerForm) (n m : ℕ) (s : FormSized c) (h : 2 ≤ n) (k : m ≤ 
       (mul-in (pos 3 *ℤ c .c3) (pos m) (3 * c3Most) n (mul-in (pos 3) (c .c3) 3 c3Most (le-refl 3) (s .c3-size)) k))
       (omega arith)
 
-  centre-in : natAbs (centreOf c (pos n) (pos m) (n * n * n)) ≤ centreMost
+  centre-in : natAbs (quotient (tops .centre) (n * n * n)) ≤ centreMost
   centre-in = nearest-in (pos 16 *ℤ a0 c (pos n) (pos m) +ℤ pos 8 *ℤ a2 c (pos n) (pos m)) (n * n * n) (16 * a0Share + 8 * a2Share / 4) (cube-above n h)
       (le-trans
       (add-in (pos 16 *ℤ a0 c (pos n) (pos m)) (pos 8 *ℤ a2 c (pos n) (pos m)) (16 * (a0Share * (n * n * n))) (8 * (a2Share * n))
@@ -142,7 +152,7 @@ module _ (c : PowerForm) (n m : ℕ) (s : FormSized c) (h : 2 ≤ n) (k : m ≤ 
       (mul-in (pos 8) (a2 c (pos n) (pos m)) 8 (a2Share * n) (le-refl 8) a2-in))
       (omega (arith, cubes n h .1)))
 
-  axis-in : natAbs (axisOf c (pos n) (pos m) (n * n * n)) ≤ axisMost
+  axis-in : natAbs (quotient (tops .axis) (n * n * n)) ≤ axisMost
   axis-in = nearest-in (pos 16 *ℤ a1 c (pos n) (pos m) +ℤ pos 12 *ℤ c .c3) (n * n * n) (16 * a1Share / 2 + 12 * c3Most / 8) (cube-above n h)
       (le-trans
       (add-in (pos 16 *ℤ a1 c (pos n) (pos m)) (pos 12 *ℤ c .c3) (16 * (a1Share * (n * n))) (12 * c3Most)
@@ -150,21 +160,21 @@ module _ (c : PowerForm) (n m : ℕ) (s : FormSized c) (h : 2 ≤ n) (k : m ≤ 
       (mul-in (pos 12) (c .c3) 12 c3Most (le-refl 12) (s .c3-size)))
       (omega (arith, cubes n h .0, cubes n h .2)))
 
-  pub second-in : natAbs (secondOf c (pos n) (pos m) (n * n * n)) ≤ secondMost
+  pub second-in : natAbs (quotient (tops .second) (n * n * n)) ≤ secondMost
   second-in = nearest-in (pos 8 *ℤ a2 c (pos n) (pos m)) (n * n * n) (8 * a2Share / 4) (cube-above n h)
       (le-trans (mul-in (pos 8) (a2 c (pos n) (pos m)) 8 (a2Share * n) (le-refl 8) a2-in) (omega (arith, cubes n h .1)))
 
-  pub third-in : natAbs (thirdOf c (n * n * n)) ≤ thirdMost
+  pub third-in : natAbs (quotient (tops .third) (n * n * n)) ≤ thirdMost
   third-in = nearest-in (pos 4 *ℤ c .c3) (n * n * n) (4 * c3Most / 8) (cube-above n h)
       (le-trans (mul-in (pos 4) (c .c3) 4 c3Most (le-refl 4) (s .c3-size)) (omega (arith, cubes n h .2)))
 
-  box-in : natAbs (boxOf c (pos n) (pos m) (n * n * n)) ≤ secondMost + thirdMost + 2
+  box-in : natAbs (sideOver tops (n * n * n) .box) ≤ secondMost + thirdMost + padMost
   unfolding absℤ
-  box-in = omega (arith, second-in, third-in)
+  box-in = omega (arith, second-in, third-in, pad-most tops (n * n * n))
 
-  box-above : T (nonNeg (boxOf c (pos n) (pos m) (n * n * n)))
+  box-above : T (nonNeg (sideOver tops (n * n * n) .box))
   unfolding absℤ
-  box-above = sum-above (natAbs (secondOf c (pos n) (pos m) (n * n * n))) (natAbs (thirdOf c (n * n * n)))
+  box-above = sum-above (natAbs (quotient (tops .second) (n * n * n))) (natAbs (quotient (tops .third) (n * n * n))) (padOf (remainders tops (n * n * n)))
 
   -- every strip's numbers are within the sizes that code counts on
   pub curved-sized : SideSized (curved c n m)

@@ -3,17 +3,17 @@ use nodes::Extent;
 use rounding::Quotient;
 ghost use mathlib.Core.Path.{_≡_};
 ghost use mathlib.Core.Bool.{true, false, cond};
-ghost use Prim.Native.Nat.{_≤_, _<_};
+ghost use Prim.Native.Nat.{_*_, _≤_};
 ghost use lib.Dec.{T};
 ghost use lib.IntN.{pos, natAbs};
 ghost use lib.Signed.{nonNeg};
 ghost use Rattle.model.specs.Jobs.{cubic, line};
-ghost use Rattle.model.specs.Strips.{a0, a1, a2, centreOf, axisOf, secondOf, thirdOf, boxOf, curved, straight, sideAt, fits, short};
+ghost use Rattle.model.specs.Strips.{a0, a1, a2, numerators, padOf, straight, sideAt, fits, short};
 ghost use Rattle.ranges.specs.Sizes.{grainMost, CubicSized, LineSized, SideSized, Sized};
-ghost use Rattle.ranges.specs.PowerForm.{FormSized, nMost, cubeMost, a0Most, a1Most, a2Most, secondMost, thirdMost};
+ghost use Rattle.ranges.specs.PowerForm.{FormSized, nMost, a0Most, a1Most, a2Most, secondMost, thirdMost, padMost};
 ghost use Rattle.subtrees.specs.Subtrees.{PieceAt};
 ghost use Rattle.nodes.specs.Structs.{side, stripOf};
-ghost use Rattle.strips.specs.Structs.{form, sideBy, stripsOf, ShapeSized};
+ghost use Rattle.strips.specs.Structs.{form, sideBy, stripsOf, ShapeSized, tops, TopsSized, left, leftAll, padded, RoundedAll};
 
 // The power form in one coordinate. A line's c2 and c3 are 0.
 pub struct Power {
@@ -29,6 +29,22 @@ pub struct Shape {
     pub x: Power,
     pub y: Power,
     pub straight: bool,
+}
+
+// A cubic's four coefficients in one coordinate of a piece, times N³.
+pub struct Numerators {
+    pub centre: i64,
+    pub axis: i64,
+    pub second: i64,
+    pub third: i64,
+}
+
+// The same over N³, rounded.
+pub struct Quotients {
+    pub centre: Quotient,
+    pub axis: Quotient,
+    pub second: Quotient,
+    pub third: Quotient,
 }
 
 // A piece's strip, and whether it is short.
@@ -104,64 +120,79 @@ fn a2_of(c: Power, n: i64, m: i64) -> i64
     c2 * n + 3 * c3 * m
 }
 
-// ---- the four quotients by N³, a power of two, and the box
+// ---- a cubic's four numerators over N³, a power of two; their quotients; the pad and the strip in one coordinate
 
-fn centre_of(c: Power, n: i64, m: i64, cube: i64) -> i64
-    requires sizes { ⌜ FormSized (form c) × (natAbs n ≤ nMost) × (natAbs m ≤ nMost) × (natAbs cube ≤ cubeMost) × (0 < natAbs cube) × T (nonNeg cube) ⌝ }
-    ensures centre { λ r. ⌜ r ≡ centreOf (form c) n m (natAbs cube) ⌝ }
+fn numerators_of(c: Power, n: i64, m: i64) -> Numerators
+    requires sizes { ⌜ FormSized (form c) × (natAbs n ≤ nMost) × (natAbs m ≤ nMost) ⌝ }
+    ensures numerators { λ r. ⌜ tops r ≡ numerators (form c) n m ⌝ }
+    ensures sized { λ r. ⌜ TopsSized (tops r) ⌝ }
 {
     let a0 = a0_of(c, n, m);
-    let a2 = a2_of(c, n, m);
-    let q = rounding::rounded(16 * a0 + 8 * a2, cube);
-    q.nearest
-}
-
-fn axis_of(c: Power, n: i64, m: i64, cube: i64) -> i64
-    requires sizes { ⌜ FormSized (form c) × (natAbs n ≤ nMost) × (natAbs m ≤ nMost) × (natAbs cube ≤ cubeMost) × (0 < natAbs cube) × T (nonNeg cube) ⌝ }
-    ensures axis { λ r. ⌜ r ≡ axisOf (form c) n m (natAbs cube) ⌝ }
-{
     let a1 = a1_of(c, n, m);
-    let a3 = c.c3;
-    let q = rounding::rounded(16 * a1 + 12 * a3, cube);
-    q.nearest
-}
-
-fn box_of(c: Power, n: i64, m: i64, cube: i64) -> i64
-    requires sizes { ⌜ FormSized (form c) × (natAbs n ≤ nMost) × (natAbs m ≤ nMost) × (natAbs cube ≤ cubeMost) × (0 < natAbs cube) × T (nonNeg cube) × (natAbs (secondOf (form c) n m (natAbs cube)) ≤ secondMost) × (natAbs (thirdOf (form c) (natAbs cube)) ≤ thirdMost) ⌝ }
-    ensures half { λ r. ⌜ r ≡ boxOf (form c) n m (natAbs cube) ⌝ }
-{
     let a2 = a2_of(c, n, m);
     let a3 = c.c3;
-    let second = rounding::rounded(8 * a2, cube);
-    let third = rounding::rounded(4 * a3, cube);
-    rounding::abs(second.nearest) + rounding::abs(third.nearest) + 2
+    Numerators {
+        centre: 16 * a0 + 8 * a2,
+        axis: 16 * a1 + 12 * a3,
+        second: 8 * a2,
+        third: 4 * a3,
+    }
 }
 
-// ---- the strip of the piece with N = n and the middle m, in one coordinate
-
-fn curved_of(c: Power, n: usize, m: usize) -> Extent
+fn quotients_of(c: Power, n: usize, m: usize) -> Quotients
     requires sizes { ⌜ FormSized (form c) × (2 ≤ n) × (n ≤ nMost) × (m ≤ n) ⌝ }
-    ensures strip { λ r. ⌜ side r ≡ curved (form c) n m ⌝ }
+    ensures quotients { λ r. ⌜ RoundedAll r (numerators (form c) (pos n) (pos m)) (n * n * n) ⌝ }
 {
     let a = n as i64;
     let b = m as i64;
     let cube = a * a * a;
-    let centre = centre_of(c, a, b, cube);
-    let axis = axis_of(c, a, b, cube);
-    let half = box_of(c, a, b, cube);
-    Extent {
+    let t = numerators_of(c, a, b);
+    let centre = rounding::rounded(t.centre, cube);
+    let axis = rounding::rounded(t.axis, cube);
+    let second = rounding::rounded(t.second, cube);
+    let third = rounding::rounded(t.third, cube);
+    Quotients {
         centre: centre,
         axis: axis,
+        second: second,
+        third: third,
+    }
+}
+
+// 1 for a quotient that was rounded
+fn slack(q: Quotient) -> usize
+    ensures slack { λ r. ⌜ r ≡ left q ⌝ }
+    ensures small { λ r. ⌜ r ≤ 1 ⌝ }
+{
+    if q.whole { 0 } else { 1 }
+}
+
+// a half for each quotient that was rounded, up to a whole number
+fn pad_of(q: Quotients) -> usize
+    ensures pad { λ r. ⌜ r ≡ padOf (leftAll q) ⌝ }
+    ensures small { λ r. ⌜ r ≤ padMost ⌝ }
+{
+    let count = slack(q.centre) + slack(q.axis) + slack(q.second) + slack(q.third);
+    (count + 1) / 2
+}
+
+fn extent_of(q: Quotients, pad: usize) -> Extent
+    requires sizes { ⌜ (natAbs (q .second .nearest) ≤ secondMost) × (natAbs (q .third .nearest) ≤ thirdMost) × (pad ≤ padMost) ⌝ }
+    ensures strip { λ r. ⌜ side r ≡ padded q pad ⌝ }
+{
+    let centre = q.centre;
+    let axis = q.axis;
+    let second = q.second;
+    let third = q.third;
+    let half = rounding::abs(second.nearest) + rounding::abs(third.nearest) + pad as i64;
+    Extent {
+        centre: centre.nearest,
+        axis: axis.nearest,
         half: half,
     }
 }
 
-// what a rounding adds to a line's box
-fn slack(q: Quotient) -> i64
-    ensures slack { λ r. ⌜ r ≡ pos (cond (q .whole) 0 1) ⌝ }
-{
-    if q.whole { 0 } else { 1 }
-}
+// ---- a line's strip in one coordinate
 
 // a line's two quotients by N
 fn straight_of(c: Power, n: usize, m: usize) -> Extent
@@ -174,7 +205,7 @@ fn straight_of(c: Power, n: usize, m: usize) -> Extent
     let q = m as i64;
     let centre = rounding::rounded(16 * (a * p + g * q), p);
     let axis = rounding::rounded(16 * g, p);
-    let half = slack(centre) + slack(axis);
+    let half = (slack(centre) + slack(axis)) as i64;
     Extent {
         centre: centre.nearest,
         axis: axis.nearest,
@@ -231,7 +262,7 @@ pub fn piece_of(shape: Shape, d: usize, k: usize, grain: i64) -> Piece
         let y = straight_of(shape.y, n, m);
         return with_short(x, y, grain);
     }
-    let x = curved_of(shape.x, n, m);
-    let y = curved_of(shape.y, n, m);
-    with_short(x, y, grain)
+    let x = quotients_of(shape.x, n, m);
+    let y = quotients_of(shape.y, n, m);
+    with_short(extent_of(x, pad_of(x)), extent_of(y, pad_of(y)), grain)
 }

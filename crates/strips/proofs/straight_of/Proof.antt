@@ -1,9 +1,9 @@
 -- Nothing wraps; both quotients are rounded by `rounded`, and the box counts those that are not whole. Assumes nothing.
 use mathlib.Core.Path.{_≡_, sym, ap, _∙_}
-use Prim.Native.Nat.{ℕ}
+use Prim.Native.Nat.{_+_}
 use native.Mathlib.Nat.{le-trans}
 use native.Mathlib.Omega.{arith}
-use lib.IntN.{ℤ, pos, _+ℤ_, _*ℤ_}
+use lib.IntN.{ℤ, pos}
 use Rattle.integers.specs.Signed.{Made, held, lit, widen, plus, times, back, called}
 use Rattle.integers.specs.Signed.{read64}
 use Rattle.integers.specs.Whole.{rest, rest-most}
@@ -66,10 +66,6 @@ slack-requires c κs = search needs
 slack-requires-2 : tie.Need-slack-requires-2
 slack-requires-2 c κs = search needs
 
--- a call's quotient z / k, and what it adds
-slackly : {r : ℤ} {t : ℕ} (z : ℤ) (k : ℕ) → r ≡ pos t → rest z k ≡ t → Made r (pos (rest z k)) 1
-slackly z k e f = called (e ∙ ap pos (sym f)) (rest-most z k) tt
-
 module _ (c : tie.After-slack2) where
   abbrev start : tie.Start
   start = c .before .before .before .before .before .before
@@ -80,16 +76,23 @@ module _ (c : tie.After-slack2) where
   abbrev B : ℤ
   B = axisTop (start .args .c .c1)
 
-  of-centre : Made (c .before .slack .result) (pos (rest A (start .args .n))) 1
+  -- what each quotient adds
+  of-centre : rest A (start .args .n) ≡ c .before .slack .result
   of-centre =
       let s = start in
-      slackly A (s .args .n) (c .before .slack .ensures) (rw (back (times (lit 16 tt) (plus (times (a s) (n s) tt) (times (g s) (m s) tt) tt) tt), back (n s)) at (c .before .before .before .rounded .ensures .1))
+      rw (back (times (lit 16 tt) (plus (times (a s) (n s) tt) (times (g s) (m s) tt) tt) tt), back (n s)) at (c .before .before .before .rounded .ensures .1) ∙ sym (c .before .slack .ensures .0)
 
-  of-axis : Made (c .slack2 .result) (pos (rest B (start .args .n))) 1
-  of-axis = let s = start in slackly B (s .args .n) (c .slack2 .ensures) (rw (back (times (lit 16 tt) (g s) tt), back (n s)) at (c .before .before .rounded2 .ensures .1))
+  of-axis : rest B (start .args .n) ≡ c .slack2 .result
+  of-axis = let s = start in rw (back (times (lit 16 tt) (g s) tt), back (n s)) at (c .before .before .rounded2 .ensures .1) ∙ sym (c .slack2 .ensures .0)
+
+  half : Made (pos (c .before .slack .result + c .slack2 .result)) (pos (rest A (start .args .n) + rest B (start .args .n))) 2
+  half = called (ap pos (omega (arith, of-centre, of-axis))) (omega (arith, rest-most A (start .args .n), rest-most B (start .args .n))) tt
 
 add-half : tie.Need-add-half
-add-half c = (plus (of-centre c) (of-axis c) tt) .fits
+add-half c = search needs
+
+cast-half : tie.Need-cast-half
+cast-half c = search needs
 
 returns : tie.Need-returns
 unfolding straight
@@ -100,7 +103,7 @@ returns c =
     let second = b .before .before .rounded2 in
     let e = rw (back (times (lit 16 tt) (plus (times (a s) (n s) tt) (times (g s) (m s) tt) tt) tt), back (n s)) at (first .ensures .0) in
     let f = rw (back (times (lit 16 tt) (g s) tt), back (n s)) at (second .ensures .0) in
-    side-eq (read64 (first .result .nearest) (c .before .struct-told3 .given .0 .1) ∙ e) (read64 (second .result .nearest) (c .struct-told4 .given .0 .1) ∙ f) (back (plus (of-centre b) (of-axis b) tt))
+    side-eq (read64 (first .result .nearest) (c .before .struct-told3 .given .0 .1) ∙ e) (read64 (second .result .nearest) (c .struct-told4 .given .0 .1) ∙ f) (back (half b))
 
 pub straight-of-spec : {M : Type 1} → statement M
 straight-of-spec =
@@ -118,4 +121,5 @@ straight-of-spec =
     slack-requires
     slack-requires-2
     add-half
+    cast-half
     returns)
