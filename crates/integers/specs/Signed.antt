@@ -4,13 +4,13 @@
 -- Assumes nothing.
 use mathlib.Core.Path.{_≡_, refl, sym, ap, _∙_, subst}
 use mathlib.Core.Bool.{Bool, true, false, cond}
-use Prim.Native.Nat.{ℕ, zero, suc, _+_, _*_, _-_, _/_, _%_, _≤_, _<_, _^_, zero-le}
-use native.Mathlib.Nat.{le-refl, le-trans, lt-of-le-of-lt, mul-le-mul, add-le-add, zero-add, div-le-self, mod-le, mod-lt, div-add-mod', div-eq-of-lt-le}
+use Prim.Native.Nat.{ℕ, zero, suc, _+_, _*_, _-_, _/_, _≤_, _<_, _^_, zero-le}
+use native.Mathlib.Nat.{le-refl, le-trans, lt-of-le-of-lt, mul-le-mul, add-le-add, zero-add, div-le-self}
 use native.Mathlib.Omega.{arith}
 use borrow.Author.Tests.{ltb-true, le-ltb, eqb-true, eqb-false}
 use lib.Dec.{T, ltb, leb, eqb, ltb→lt, leb→le}
 use lib.IntN.{ℤ, pos, negsuc, negℤ, natAbs, subℕ, _+ℤ_, _-ℤ_, _*ℤ_}
-use lib.Signed.{mag, ltZ, nonNeg, pos-natAbs, quotZ, remZ, shrZ}
+use lib.Signed.{mag, ltZ, nonNeg, pos-natAbs, quotZ, shrZ}
 use mir.Syntax.{w32, w64}
 use mir.Val.{SFits, toZ, ofZ}
 use mir.Facts.{toZ-ofZ}
@@ -98,15 +98,8 @@ pub natAbs-quot : (x : ℤ) (d : ℕ) → natAbs (quotZ x (pos d)) ≤ natAbs x
 natAbs-quot (pos a) d = div-le-self a d
 natAbs-quot (negsuc a) d = rw natAbs-neg (div-le-self (suc a) d)
 
-pub natAbs-rem : (x d : ℤ) → natAbs (remZ x d) ≤ natAbs x
-natAbs-rem (pos a) d = mod-le a (natAbs d)
-natAbs-rem (negsuc a) d = rw natAbs-neg (mod-le (suc a) (natAbs d))
-
 pub over : {u v x : ℤ} {A B d : ℕ} → Made u x A → Made v (pos d) B → T (ltb A (2 ^ 63)) → Made (quotZ (toZ w64 (ofZ w64 u)) (toZ w64 (ofZ w64 v))) (quotZ x (pos d)) A
 over {x = x} {d = d} a b t = make (rw (back a, back b) refl) (le-trans (natAbs-quot x d) (a .within)) t
-
-pub rest : {u v x : ℤ} {A B d : ℕ} → Made u x A → Made v (pos d) B → T (ltb A (2 ^ 63)) → Made (remZ (toZ w64 (ofZ w64 u)) (toZ w64 (ofZ w64 v))) (remZ x (pos d)) A
-rest {x = x} {d = d} a b t = make (rw (back a, back b) refl) (le-trans (natAbs-rem x (pos d)) (a .within)) t
 
 -- the divisor's bits are not 0
 pub above-zero : {v : ℤ} {B d : ℕ} → Made v (pos d) B → 0 < d → 0 < ofZ w64 v
@@ -131,27 +124,17 @@ pub pos-abs : (x : ℤ) → ltZ x (pos 0) ≡ false → x ≡ pos (natAbs x)
 pos-abs (pos n) e = refl
 pos-abs (negsuc n) e = cc
 
--- ---- rounded down
-
-exact : (a d : ℕ) → 0 < d → suc a % d ≡ 0 → (q : ℕ) → suc a / d ≡ q → q ≡ suc (a / d)
-exact a d h e zero f = omega (arith, div-add-mod' (suc a) d, ap (λ (k : ℕ). k * d) f)
-exact a d h e (suc p) f = ap suc (sym (div-eq-of-lt-le d (omega (arith, div-add-mod' (suc a) d, ap (λ (k : ℕ). k * d) f)) (omega (arith, div-add-mod' (suc a) d, ap (λ (k : ℕ). k * d) f))))
-
-inexact : (a d r : ℕ) → 0 < d → suc a % d ≡ suc r → suc a / d ≡ a / d
-inexact a d r h e = sym (div-eq-of-lt-le d (omega (arith, div-add-mod' (suc a) d)) (omega (arith, div-add-mod' (suc a) d, mod-lt (suc a) h)))
-
-below-law : (a d : ℕ) → 0 < d → (r : ℕ) → suc a % d ≡ r → cond (ltZ (negℤ (pos r)) (pos 0)) (negℤ (pos (suc a / d)) -ℤ pos 1) (negℤ (pos (suc a / d))) ≡ negsuc (a / d)
-below-law a d h zero e = rw (exact a d h e (suc a / d) refl)
-below-law a d h (suc r) e = rw (inexact a d r h e, neg-less (a / d))
+-- ---- rounded down: division toward zero does so from 0 on, and below 0 counted from −1 the other way
+pub floor-law : (y : ℤ) (d : ℕ) → cond (ltZ y (pos 0)) (negsuc 0 -ℤ quotZ (negsuc 0 -ℤ y) (pos d)) (quotZ y (pos d)) ≡ shrZ y d
+floor-law (pos a) d = rw (le-ltb a 0 zero-le)
+floor-law (negsuc a) d = ap (λ (z : ℤ). negsuc 0 -ℤ quotZ z (pos d)) other ∙ turn (a / d)
   where
-    neg-less : (q : ℕ) → negℤ (pos q) -ℤ pos 1 ≡ negsuc q
-    neg-less zero = refl
-    neg-less (suc q) = ap negsuc (omega arith)
+    other : negsuc 0 -ℤ negsuc a ≡ pos a
+    other = rw (le-ltb (suc a) 1 (omega arith)) (ap pos (omega arith))
 
--- division toward zero, less 1 where the remainder is below 0, is division rounded down
-pub floor-law : (y : ℤ) (d : ℕ) → 0 < d → cond (ltZ (remZ y (pos d)) (pos 0)) (quotZ y (pos d) -ℤ pos 1) (quotZ y (pos d)) ≡ shrZ y d
-floor-law (pos a) d h = rw (le-ltb (a % d) 0 zero-le)
-floor-law (negsuc a) d h = below-law a d h (suc a % d) refl
+    turn : (q : ℕ) → negsuc 0 -ℤ pos q ≡ negsuc q
+    turn zero = refl
+    turn (suc q) = ap (λ (k : ℕ). negsuc (suc k)) (zero-add q)
 
 -- a parameter that is not below 0
 pub arg-pos : {x : ℤ} {B : ℕ} → T (nonNeg x) → natAbs x ≤ B → SFits w64 x → Made x (pos (natAbs x)) B

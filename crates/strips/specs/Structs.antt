@@ -59,6 +59,10 @@ pub record RoundedAll (q : Quotients) (a : model.Numerators) (k : ℕ) : Type 0 
 abbrev pub padded : Quotients → ℕ → Side
 padded q p = record { centre = q .centre .nearest; axis = q .axis .nearest; box = absℤ (q .second .nearest) +ℤ absℤ (q .third .nearest) +ℤ pos p }
 
+-- a cubic's strip in both coordinates, for each N and m
+abbrev pub curvedBoth : Power → Power → ℕ → ℕ → Strip
+curvedBoth p q n m = record { x = curved (form p) n m; y = curved (form q) n m }
+
 -- ---- a shape's strips, piece k of depth d for each d and k, and the sizes for which none of their numbers leaves 64 bits
 unfoldable pub stripsOf : Shape → ℕ → ℕ → Strip
 stripsOf s d k = record { x = sideBy (s .straight) (s .x) (denominator d) (middle k); y = sideBy (s .straight) (s .y) (denominator d) (middle k) }

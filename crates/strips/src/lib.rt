@@ -3,17 +3,17 @@ use nodes::Extent;
 use rounding::Quotient;
 ghost use mathlib.Core.Path.{_≡_};
 ghost use mathlib.Core.Bool.{true, false, cond};
-ghost use Prim.Native.Nat.{_*_, _≤_};
+ghost use Prim.Native.Nat.{_≤_, _<_};
 ghost use lib.Dec.{T};
 ghost use lib.IntN.{pos, natAbs};
 ghost use lib.Signed.{nonNeg};
 ghost use Rattle.model.specs.Jobs.{cubic, line};
 ghost use Rattle.model.specs.Strips.{a0, a1, a2, numerators, padOf, straight, sideAt, fits, short};
 ghost use Rattle.ranges.specs.Sizes.{grainMost, CubicSized, LineSized, SideSized, Sized};
-ghost use Rattle.ranges.specs.PowerForm.{FormSized, nMost, a0Most, a1Most, a2Most, secondMost, thirdMost, padMost};
+ghost use Rattle.ranges.specs.PowerForm.{FormSized, nMost, cubeMost, a0Most, a1Most, a2Most, secondMost, thirdMost, padMost};
 ghost use Rattle.subtrees.specs.Subtrees.{PieceAt};
 ghost use Rattle.nodes.specs.Structs.{side, stripOf};
-ghost use Rattle.strips.specs.Structs.{form, sideBy, stripsOf, ShapeSized, tops, TopsSized, left, leftAll, padded, RoundedAll};
+ghost use Rattle.strips.specs.Structs.{form, sideBy, stripsOf, ShapeSized, tops, TopsSized, left, leftAll, padded, RoundedAll, curvedBoth};
 
 // The power form in one coordinate. A line's c2 and c3 are 0.
 pub struct Power {
@@ -139,14 +139,10 @@ fn numerators_of(c: Power, n: i64, m: i64) -> Numerators
     }
 }
 
-fn quotients_of(c: Power, n: usize, m: usize) -> Quotients
-    requires sizes { ⌜ FormSized (form c) × (2 ≤ n) × (n ≤ nMost) × (m ≤ n) ⌝ }
-    ensures quotients { λ r. ⌜ RoundedAll r (numerators (form c) (pos n) (pos m)) (n * n * n) ⌝ }
+fn quotients_of(t: Numerators, cube: i64) -> Quotients
+    requires sizes { ⌜ TopsSized (tops t) × (natAbs cube ≤ cubeMost) × (0 < natAbs cube) × T (nonNeg cube) ⌝ }
+    ensures quotients { λ r. ⌜ RoundedAll r (tops t) (natAbs cube) ⌝ }
 {
-    let a = n as i64;
-    let b = m as i64;
-    let cube = a * a * a;
-    let t = numerators_of(c, a, b);
     let centre = rounding::rounded(t.centre, cube);
     let axis = rounding::rounded(t.axis, cube);
     let second = rounding::rounded(t.second, cube);
@@ -248,7 +244,23 @@ fn with_short(x: Extent, y: Extent, grain: i64) -> Piece
     }
 }
 
-// the strip of piece k of depth d, in both coordinates
+// ---- the strip of a piece in both coordinates
+
+// of a cubic, with N = n and the middle m: each coordinate has its own pad
+fn curved_of(p: Power, q: Power, n: usize, m: usize, grain: i64) -> Piece
+    requires sizes { ⌜ FormSized (form p) × FormSized (form q) × (2 ≤ n) × (n ≤ nMost) × (m ≤ n) × (natAbs grain ≤ grainMost) ⌝ }
+    ensures strip { λ r. ⌜ stripOf (r .x) (r .y) ≡ curvedBoth p q n m ⌝ }
+    ensures short { λ r. ⌜ r .short ≡ short grain (curvedBoth p q n m) ⌝ }
+{
+    let a = n as i64;
+    let b = m as i64;
+    let cube = a * a * a;
+    let x = quotients_of(numerators_of(p, a, b), cube);
+    let y = quotients_of(numerators_of(q, a, b), cube);
+    with_short(extent_of(x, pad_of(x)), extent_of(y, pad_of(y)), grain)
+}
+
+// of piece k of depth d
 pub fn piece_of(shape: Shape, d: usize, k: usize, grain: i64) -> Piece
     requires sizes { ⌜ ShapeSized shape × PieceAt d k × (natAbs grain ≤ grainMost) ⌝ }
     ensures strip { λ r. ⌜ stripOf (r .x) (r .y) ≡ stripsOf shape d k ⌝ }
@@ -262,7 +274,5 @@ pub fn piece_of(shape: Shape, d: usize, k: usize, grain: i64) -> Piece
         let y = straight_of(shape.y, n, m);
         return with_short(x, y, grain);
     }
-    let x = quotients_of(shape.x, n, m);
-    let y = quotients_of(shape.y, n, m);
-    with_short(extent_of(x, pad_of(x)), extent_of(y, pad_of(y)), grain)
+    curved_of(shape.x, shape.y, n, m, grain)
 }

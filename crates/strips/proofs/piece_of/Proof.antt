@@ -1,28 +1,24 @@
 -- N is 2^(d+1), and both strips are sized, so shortness can be tested. Assumes nothing.
-use mathlib.Core.Path.{_≡_, sym, ap, ap₂, _∙_, subst}
-use mathlib.Core.Bool.{Bool, false}
+use mathlib.Core.Path.{_≡_, refl, sym, ap, ap₂, _∙_, subst}
+use mathlib.Core.Bool.{false}
 use Prim.Native.Nat.{ℕ, _*_, _%_, _^_, _≤_}
 use native.Mathlib.Numerals.{add-one}
 use native.Mathlib.Nat.{pow-suc, mod-eq-of-lt}
 use native.Mathlib.Omega.{arith}
-use lib.IntN.{ℤ, pos, natAbs}
+use lib.IntN.{ℤ}
 use lib.Pow.{pow-pos, pow-mono}
 use mir.Facts.{toZ-ofZ}
-use Rattle.model.specs.Strips.{Side, Strip, denominator, middle, Numerators, numerators, padOf, curved, short}
+use Rattle.model.specs.Strips.{Side, Strip, denominator, middle, short}
 use Rattle.model.specs.Trees.{deepest}
 use Rattle.ranges.specs.Sizes.{Sized}
-use Rattle.ranges.specs.PowerForm.{FormSized, nMost, secondMost, thirdMost, padMost, second-in, third-in}
+use Rattle.ranges.specs.PowerForm.{nMost}
 use Rattle.subtrees.specs.Subtrees.{PieceAt}
 use Rattle.nodes.specs.declared.Extent.{Extent}
 use Rattle.nodes.specs.Structs.{side, stripOf}
-use Rattle.strips.specs.declared.Power.{Power}
-use Rattle.strips.specs.declared.Quotients.{Quotients}
 use Rattle.strips.specs.declared.Shape.{Shape}
 use Rattle.strips.specs.declared.Piece.{Piece}
-use Rattle.strips.specs.Structs.{form, sideBy, stripsOf, ShapeSized, leftAll, padded, RoundedAll}
+use Rattle.strips.specs.Structs.{sideBy, stripsOf, ShapeSized, curvedBoth}
 use Rattle.strips.proofs.Coefficients.{by-sized}
-use Rattle.strips.proofs.Roundings.{padded-is}
-use borrow.Author.Needs.{needs}
 use Rattle.strips.proofs.piece_of.Statement.{statement}
 use Rattle.strips.proofs.piece_of.Tie as tie
 
@@ -102,79 +98,24 @@ returns c =
     handed (s .args .shape) (s .args .d) (s .args .k) (s .pre .0) (piece s) (b .before .straight-of .result) (b .straight-of2 .result) (s .args .grain) (c .with-short .result) (line-is b) (rw (toZ-ofZ (s .fits .grain)) at (c .with-short .ensures))
 
 -- ---- a cubic's
-quotients-of-requires : tie.Need-quotients-of-requires
-quotients-of-requires c κs = let s = c .before in let p = piece s in rw (p .is) (s .pre .0 .x-form, p .two, p .most, p .middle-in)
+curved-of-requires : tie.Need-curved-of-requires
+curved-of-requires c κs =
+    let s = c .before in
+    let p = piece s in
+    rw (p .is, toZ-ofZ (s .fits .grain)) (s .pre .0 .x-form, s .pre .0 .y-form, p .two, p .most, p .middle-in, s .pre .2)
 
-quotients-of-requires-2 : tie.Need-quotients-of-requires-2
-quotients-of-requires-2 c κs = let s = c .before .before in let p = piece s in rw (p .is) (s .pre .0 .y-form, p .two, p .most, p .middle-in)
-
--- one coordinate: its numerators and N³, and what is known of the quotients
-abbrev topsOf : Power → ℕ → ℕ → Numerators
-topsOf c d k = numerators (form c) (pos (denominator d)) (pos (middle k))
-
-abbrev cubeOf : ℕ → ℕ
-cubeOf d = denominator d * denominator d * denominator d
-
-module _ (c : Power) (d k : ℕ) (q : Quotients) (h : RoundedAll q (topsOf c d k) (cubeOf d)) (p : ℕ) where
-  small : FormSized (form c) → Doubled d k → p ≤ padMost → (natAbs (q .second .nearest) ≤ secondMost) × (natAbs (q .third .nearest) ≤ thirdMost) × (p ≤ padMost)
-  small s r l = (
-    rw (h .second .nearest-is) (second-in (form c) (denominator d) (middle k) s (r .two) (r .middle-in)),
-    rw (h .third .nearest-is) (third-in (form c) (denominator d) (middle k) s (r .two) (r .middle-in)),
-    l,
-  )
-
-  side-is : (t : Bool) (r : Extent) → t ≡ false → p ≡ padOf (leftAll q) → side r ≡ padded q p → side r ≡ sideBy t c (denominator d) (middle k)
-  unfolding sideBy curved
-  side-is t r z e f = rw z (f ∙ padded-is q (topsOf c d k) (cubeOf d) p h e)
-
-module _ (c : tie.After-quotients-of2) where
-  abbrev origin : tie.Start
-  origin = c .before .before .before
-
-  of-x : RoundedAll (c .before .quotients-of .result) (topsOf (origin .args .shape .x) (origin .args .d) (origin .args .k)) (cubeOf (origin .args .d))
-  of-x = rw (piece origin .is) at (c .before .quotients-of .ensures)
-
-  of-y : RoundedAll (c .quotients-of2 .result) (topsOf (origin .args .shape .y) (origin .args .d) (origin .args .k)) (cubeOf (origin .args .d))
-  of-y = rw (piece origin .is) at (c .quotients-of2 .ensures)
-
-pad-of-requires : tie.Need-pad-of-requires
-pad-of-requires c κs = search needs
-
-extent-of-requires : tie.Need-extent-of-requires
-extent-of-requires c κs =
-    let b = c .before in
-    let s = origin b in
-    small (s .args .shape .x) (s .args .d) (s .args .k) (b .before .quotients-of .result) (of-x b) (c .pad-of .result) (s .pre .0 .x-form) (piece s) (c .pad-of .ensures .1)
-
-pad-of-requires-2 : tie.Need-pad-of-requires-2
-pad-of-requires-2 c κs = search needs
-
-extent-of-requires-2 : tie.Need-extent-of-requires-2
-extent-of-requires-2 c κs =
-    let b = c .before .before .before in
-    let s = origin b in
-    small (s .args .shape .y) (s .args .d) (s .args .k) (b .quotients-of2 .result) (of-y b) (c .pad-of2 .result) (s .pre .0 .y-form) (piece s) (c .pad-of2 .ensures .1)
-
-cubic-is : (c : tie.After-extent-of2) → let s = origin (c .before .before .before .before) in stripOf (c .before .before .extent-of .result) (c .extent-of2 .result) ≡ stripsOf (s .args .shape) (s .args .d) (s .args .k)
-cubic-is c =
-    let b = c .before .before .before .before in
-    let s = origin b in
-    let x = c .before .before .before .pad-of in
-    let y = c .before .pad-of2 in
-    strip-is (s .args .shape) (s .args .d) (s .args .k) (s .pre .0) (piece s) (c .before .before .extent-of .result) (c .extent-of2 .result)
-    (side-is (s .args .shape .x) (s .args .d) (s .args .k) (b .before .quotients-of .result) (of-x b) (x .result) (s .args .shape .straight) (c .before .before .extent-of .result) (b .before .before .if1 .left) (x .ensures .0) (c .before .before .extent-of .ensures))
-    (side-is (s .args .shape .y) (s .args .d) (s .args .k) (b .quotients-of2 .result) (of-y b) (y .result) (s .args .shape .straight) (c .extent-of2 .result) (b .before .before .if1 .left) (y .ensures .0) (c .extent-of2 .ensures))
-
-with-short-requires-2 : tie.Need-with-short-requires-2
-with-short-requires-2 c κs =
-    let s = origin (c .before .before .before .before) in
-    (strip-sized (s .args .shape) (s .args .d) (s .args .k) (s .pre .0) (piece s) (c .before .before .extent-of .result) (c .extent-of2 .result) (cubic-is c), rw (toZ-ofZ (s .fits .grain)) (s .pre .2))
+-- a strip whose coordinates are a shape's that is no line
+cubic-is : (shape : Shape) (d k : ℕ) → shape .straight ≡ false → curvedBoth (shape .x) (shape .y) (denominator d) (middle k) ≡ stripsOf shape d k
+unfolding sideBy stripsOf
+cubic-is shape d k e = rw e refl
 
 returns-2 : tie.Need-returns-2
 returns-2 c =
-    let b = c .before in
-    let s = origin (b .before .before .before .before) in
-    handed (s .args .shape) (s .args .d) (s .args .k) (s .pre .0) (piece s) (b .before .before .extent-of .result) (b .extent-of2 .result) (s .args .grain) (c .with-short2 .result) (cubic-is b) (rw (toZ-ofZ (s .fits .grain)) at (c .with-short2 .ensures))
+    let s = c .before .before in
+    let e = rw (piece s .is, toZ-ofZ (s .fits .grain)) at (c .curved-of .ensures) in
+    let f = cubic-is (s .args .shape) (s .args .d) (s .args .k) (c .before .if1 .left) in
+    let h = e .0 ∙ f in
+    (h, (strip-sized (s .args .shape) (s .args .d) (s .args .k) (s .pre .0) (piece s) (c .curved-of .result .x) (c .curved-of .result .y) h, e .1 ∙ ap (short (s .args .grain)) f))
 
 pub piece-of-spec : {M : Type 1} → statement M
 piece-of-spec =
@@ -187,11 +128,5 @@ piece-of-spec =
     straight-of-requires-2
     with-short-requires
     returns
-    quotients-of-requires
-    quotients-of-requires-2
-    pad-of-requires
-    extent-of-requires
-    pad-of-requires-2
-    extent-of-requires-2
-    with-short-requires-2
+    curved-of-requires
     returns-2)
