@@ -10,7 +10,7 @@ static const char sheet[] =
     "(plate 0 0 1)\n"
     "(cell 0)\n"
     "(reach 90)\n"
-    "(edge (10 0) (10 0) (10 0) (10 0))\n"
+    "(edge (10 0) (10 0) (10 0) (11 0))\n"
     ")\n";
 
 int main(void)
