@@ -90,6 +90,13 @@ pair = job (pos 0) (pos 0) (pos 1) (pos 0) (pos 9) (pos 10) 2 (replicate 8 (pos 
 abbrev pub pairStore : List ℤ
 pairStore = soundStore ++ (pos 160 ∷ pos 112 ∷ pos 0 ∷ pos 0 ∷ pos 0 ∷ pos 0 ∷ pos 1 ∷ [])
 
+-- an edge from (10, 0) to (11, 0), slow at first
+abbrev pub bent : Job
+bent = job (pos 0) (pos 0) (pos 1) (pos 0) (pos 9) (pos 10) 1 (pos 10 ∷ pos 0 ∷ pos 10 ∷ pos 0 ∷ pos 10 ∷ pos 0 ∷ pos 11 ∷ pos 0 ∷ [])
+
+abbrev pub bentStore : List ℤ
+bentStore = pos 165 ∷ pos 0 ∷ pos 8 ∷ pos 0 ∷ pos 5 ∷ pos 0 ∷ pos 1 ∷ []
+
 abbrev pub soundSheet : String
 soundSheet = "(job\n(plate 0 0 1)\n(cell 0)\n(reach 9)\n(edge (0 0) (0 0) (0 0) (0 0))\n)\n"
 
@@ -167,6 +174,8 @@ pointFigures =
     -- the nearer of two edges, where x and y exchanged, or one of them in place of the other, would name the other edge
     ∷ point-of pair (pos 9) (pos 1) pairStore (record { refusal = 0; lo = pos 9472; hi = pos 9472; edge = 1 })
     ∷ point-of pair (pos 4) (pos 12) pairStore (record { refusal = 0; lo = pos 15616; hi = pos 15616; edge = 1 })
+    -- the bounds of an edge that is no point
+    ∷ point-of bent (pos 3) (pos 4) bentStore (record { refusal = 0; lo = pos 14912; hi = pos 20996; edge = 0 })
     ∷ point-of sound off (pos 4) soundStore (refused 3)
     ∷ point-of sound (pos 3) (pos 4) [] (refused 6)
     ∷ point-of sound (pos 3) (pos 4) (replicate 7 (pos 2)) (refused 8)
@@ -209,6 +218,7 @@ pub asking-holds : AllHold Holds pointFigures
 unfolding pointRefusal accepted counted ranged celled between coordinate isZero placed isOne spare kind marked forest outline edgesFrom curved straight sideAt strip absℤ tree pieces begins same leaves leavesAll leavesAt least
 asking-holds =
     refl and refl and refl and refl and refl and refl and refl and refl and refl and refl and refl and refl and refl
+    and (record { refusal-is = refl; lo-is = refl; hi-is = refl; edge-is = inl refl })
     and (record { refusal-is = refl; lo-is = refl; hi-is = refl; edge-is = inl refl })
     and (record { refusal-is = refl; lo-is = refl; hi-is = refl; edge-is = inl refl })
     and (record { refusal-is = refl; lo-is = refl; hi-is = refl; edge-is = inl refl })

@@ -211,6 +211,8 @@ plateFigures =
     ∷ bounds slanted (pos 9) (pos 18) (pos 100) (pos 2677)
     ∷ bounds slanted (pos 14) (pos 16) (pos 100) (pos 8149)
     ∷ bounds slanted (pos 9) (pos 16) (pos 0) (pos 1205)
+    -- an edge is named for the farthest point of a leaf, where that gives hi
+    ∷ named slanted (pos 9) (pos 18) 0
     ∷ []
 
 -- ---- the statements
@@ -237,4 +239,5 @@ plates-hold =
     refl and refl and refl and refl and refl and refl and refl and refl and refl and refl and refl and refl and refl and refl and refl and refl and refl and refl
     and (refl, refl) and inl refl and apart (pos 14848) (pos 6400) tt and (refl, refl) and apart (pos 41472) (pos 1280) tt and inl refl and (λ h. h) and inl refl and inl refl
     and (refl, refl) and (refl, refl) and (refl, refl)
+    and inl refl
     and tt

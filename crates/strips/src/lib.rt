@@ -32,7 +32,7 @@ pub struct Shape {
 }
 
 // A cubic's four coefficients in one coordinate of a piece, times N³.
-pub struct Numerators {
+struct Numerators {
     pub centre: i64,
     pub axis: i64,
     pub second: i64,
@@ -40,7 +40,7 @@ pub struct Numerators {
 }
 
 // The same over N³, rounded.
-pub struct Quotients {
+struct Quotients {
     pub centre: Quotient,
     pub axis: Quotient,
     pub second: Quotient,
