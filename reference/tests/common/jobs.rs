@@ -36,6 +36,9 @@ pub const SHAPES: [Shape; 10] = [
     Shape::PointLine,
 ];
 
+/// So many of them, the first, are cubics.
+const CUBICS: usize = 7;
+
 /// Sizes of an outline, from a few units to the whole range.
 const SIZES: [i32; 6] = [2, 12, 90, 1_500, 40_000, 1_000_000];
 
@@ -109,20 +112,11 @@ pub fn random_job(rng: &mut Xorshift, spread: i32) -> Job {
 /// of its strips are exact, and equal lengths are common.
 pub fn coarse_job(rng: &mut Xorshift, spread: i32) -> Job {
     const UNIT: i32 = 64;
-    const CUBICS: [Shape; 7] = [
-        Shape::Point,
-        Shape::StraightCubic,
-        Shape::FoldedCubic,
-        Shape::Cusp,
-        Shape::Loop,
-        Shape::Closed,
-        Shape::Wiggle,
-    ];
     let units = rng.choose(&[1, 2, 4, 8]);
     let middle = [rng.between(-99, 99), rng.between(-99, 99)];
     let mut job = Job::ZERO;
     for _ in 0..rng.choose(&[1, 1, 2, 3]) {
-        let shape = rng.choose(&CUBICS);
+        let shape = rng.choose(&SHAPES[..CUBICS]);
         let edge = random_edge(rng, shape, units, middle);
         job.add(&Edge::Cubic(edge.place().map(|number| UNIT * number)));
     }
