@@ -3,11 +3,12 @@
 use mathlib.Core.Path.{_≡_, refl}
 use mathlib.Core.Bool.{Bool, true, false}
 use mathlib.Core.List.{List, [], _∷_, _++_}
-use mathlib.Core.Logic.{inl}
+use mathlib.Core.Logic.{inl, inr}
 use Prim.Native.Nat.{ℕ}
 use Prim.Native.String.{String}
 use lib.IntN.{ℤ, pos, negsuc}
 use lib.ListN.{length, take, replicate}
+use native.Mathlib.Omega.{arith}
 use Rattle.basics.specs.Lists.{table, rowMajor}
 use Rattle.basics.specs.Numbers.{absℤ}
 use Rattle.model.specs.declared.Job.{Job}
@@ -30,7 +31,7 @@ use Rattle.model.specs.Plates.{drawn, mapped, mapOf}
 use Rattle.model.specs.Distance.{leaves, leavesAll, leavesAt, least}
 use Rattle.model.specs.Entries.{readChecks, readAnswer, read, writeRefusal, write, writeLeaves, mapRefusal, map, mapStore, mapCells, pointRefusal, IsNearest}
 use Rattle.model.specs.Printing.{rowText, rowsText, mapForm, refusedForm, mapText, storeLent, cellsLent, answered, mapAnswered, printed}
-use Rattle.model.specs.FigureTables.{AllHold, _and_, job}
+use Rattle.model.specs.FigureTables.{AllHold, _and_, unequal, job}
 
 pub data Figure : Type 0 where
   -- whether the numbers of some checks rise, from n on
@@ -49,6 +50,8 @@ pub data Figure : Type 0 where
   point-refused : Job → ℤ → ℤ → List ℤ → ℕ → Figure
   -- the whole answer
   point-of : Job → ℤ → ℤ → List ℤ → Nearest → Figure
+  -- an answer that is not permitted
+  not-point-of : Job → ℤ → ℤ → List ℤ → Nearest → Figure
   -- how many numbers and how many bytes the program lends
   lends : ℕ → ℕ → Figure
   -- the program's input and what it prints, or how that begins
@@ -64,6 +67,7 @@ Holds (maps j s c a t d) = (map j s c ≡ a) × (mapStore j s c ≡ t) × (mapCe
 Holds (map-refused j s c k) = mapRefusal j (replicate s (pos 0)) (replicate c 0) ≡ k
 Holds (point-refused j x y ns k) = pointRefusal j x y ns ≡ k
 Holds (point-of j x y ns a) = IsNearest j x y ns a
+Holds (not-point-of j x y ns a) = IsNearest j x y ns a → ⊥
 Holds (lends s c) = (storeLent ≡ s) × (cellsLent ≡ c)
 Holds (prints s t) = printed (bytes s) ≡ bytes t
 Holds (prints-first s t) = take (length (bytes t)) (printed (bytes s)) ≡ bytes t
@@ -90,12 +94,19 @@ pair = job (pos 0) (pos 0) (pos 1) (pos 0) (pos 9) (pos 10) 2 (replicate 8 (pos 
 abbrev pub pairStore : List ℤ
 pairStore = soundStore ++ (pos 160 ∷ pos 112 ∷ pos 0 ∷ pos 0 ∷ pos 0 ∷ pos 0 ∷ pos 1 ∷ [])
 
--- an edge from (10, 0) to (11, 0), slow at first
+-- a point edge at (10, 7), and a slanted edge, which is halved once
 abbrev pub bent : Job
-bent = job (pos 0) (pos 0) (pos 1) (pos 0) (pos 9) (pos 10) 1 (pos 10 ∷ pos 0 ∷ pos 10 ∷ pos 0 ∷ pos 10 ∷ pos 0 ∷ pos 11 ∷ pos 0 ∷ [])
+bent = job (pos 0) (pos 0) (pos 1) (pos 0) (pos 9) (pos 4) 2 (pos 10 ∷ pos 7 ∷ pos 10 ∷ pos 7 ∷ pos 10 ∷ pos 7 ∷ pos 10 ∷ pos 7 ∷ pos 11 ∷ pos 16 ∷ pos 6 ∷ pos 16 ∷ pos 12 ∷ pos 14 ∷ pos 13 ∷ pos 22 ∷ [])
 
 abbrev pub bentStore : List ℤ
-bentStore = pos 165 ∷ pos 0 ∷ pos 8 ∷ pos 0 ∷ pos 5 ∷ pos 0 ∷ pos 1 ∷ []
+bentStore =
+    pos 160 ∷ pos 112 ∷ pos 0 ∷ pos 0 ∷ pos 0 ∷ pos 0 ∷ pos 1
+    ∷ pos 174 ∷ pos 280 ∷ pos 24 ∷ pos 42 ∷ pos 26 ∷ pos 30 ∷ pos 3
+    ∷ pos 156 ∷ pos 255 ∷ negsuc 8 ∷ negsuc 0 ∷ pos 13 ∷ pos 5 ∷ pos 1
+    ∷ pos 184 ∷ pos 294 ∷ pos 27 ∷ pos 47 ∷ pos 3 ∷ pos 14 ∷ pos 1 ∷ []
+
+abbrev pub answer : ℕ → ℤ → ℤ → ℕ → Nearest
+answer k l h e = record { refusal = k; lo = l; hi = h; edge = e }
 
 abbrev pub soundSheet : String
 soundSheet = "(job\n(plate 0 0 1)\n(cell 0)\n(reach 9)\n(edge (0 0) (0 0) (0 0) (0 0))\n)\n"
@@ -174,8 +185,13 @@ pointFigures =
     -- the nearer of two edges, where x and y exchanged, or one of them in place of the other, would name the other edge
     ∷ point-of pair (pos 9) (pos 1) pairStore (record { refusal = 0; lo = pos 9472; hi = pos 9472; edge = 1 })
     ∷ point-of pair (pos 4) (pos 12) pairStore (record { refusal = 0; lo = pos 15616; hi = pos 15616; edge = 1 })
-    -- the bounds of an edge that is no point
-    ∷ point-of bent (pos 3) (pos 4) bentStore (record { refusal = 0; lo = pos 14912; hi = pos 20996; edge = 0 })
+    -- the bounds apart: edge 0 attains the greater one, and edge 1 the lesser. No number of the answer may be another
+    ∷ point-of bent (pos 9) (pos 11) bentStore (answer 0 (pos 3349) (pos 4352) 0)
+    ∷ not-point-of bent (pos 9) (pos 11) bentStore (answer 1 (pos 3349) (pos 4352) 0)
+    ∷ not-point-of bent (pos 9) (pos 11) bentStore (answer 0 (pos 4352) (pos 4352) 0)
+    ∷ not-point-of bent (pos 9) (pos 11) bentStore (answer 0 (pos 3349) (pos 4353) 0)
+    ∷ not-point-of bent (pos 9) (pos 11) bentStore (answer 0 (pos 3349) (pos 4352) 1)
+    ∷ not-point-of sound off (pos 4) soundStore (answer 3 (pos 0) (pos 0) 1)
     ∷ point-of sound off (pos 4) soundStore (refused 3)
     ∷ point-of sound (pos 3) (pos 4) [] (refused 6)
     ∷ point-of sound (pos 3) (pos 4) (replicate 7 (pos 2)) (refused 8)
@@ -214,6 +230,9 @@ drawing-holds =
     and refl and refl and refl and refl and refl and refl and refl and refl
     and tt
 
+one : _≡_ {A = ℕ} 1 0 → ⊥
+one e = absurd (omega arith)
+
 pub asking-holds : AllHold Holds pointFigures
 unfolding pointRefusal accepted counted ranged celled between coordinate isZero placed isOne spare kind marked forest outline edgesFrom curved straight sideAt strip absℤ tree pieces begins same leaves leavesAll leavesAt least
 asking-holds =
@@ -222,6 +241,11 @@ asking-holds =
     and (record { refusal-is = refl; lo-is = refl; hi-is = refl; edge-is = inl refl })
     and (record { refusal-is = refl; lo-is = refl; hi-is = refl; edge-is = inl refl })
     and (record { refusal-is = refl; lo-is = refl; hi-is = refl; edge-is = inl refl })
+    and (λ h. one (h .refusal-is))
+    and (λ h. unequal (pos 4352) (pos 3349) tt (h .lo-is))
+    and (λ h. unequal (pos 4353) (pos 4352) tt (h .hi-is))
+    and (λ h. elim (h .edge-is) [ inl e ↦ unequal (pos 8381) (pos 4352) tt e | inr k ↦ elim k [ inl e ↦ unequal (pos 36941) (pos 4352) tt e | inr z ↦ z ] ])
+    and (λ h. one (h .edge-is))
     and (record { refusal-is = refl; lo-is = refl; hi-is = refl; edge-is = refl })
     and (record { refusal-is = refl; lo-is = refl; hi-is = refl; edge-is = refl })
     and (record { refusal-is = refl; lo-is = refl; hi-is = refl; edge-is = refl })

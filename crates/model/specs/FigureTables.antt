@@ -1,8 +1,12 @@
--- What the tables of figures share: when all figures of a table hold, and jobs in short. Assumes nothing.
+-- What the tables of figures share: when all figures of a table hold, numbers that differ, and jobs in short. Assumes nothing.
+use mathlib.Core.Path.{_≡_, subst}
 use mathlib.Core.List.{List, [], _∷_, _++_}
 use Prim.Native.Nat.{ℕ, _-_}
+use lib.Dec.{T}
 use lib.IntN.{ℤ, pos}
+use lib.Signed.{ltZ, ltZ-yes, <ℤ-irrefl}
 use lib.ListN.{length, replicate}
+use Rattle.basics.specs.Orders.{_≺_}
 use Rattle.model.specs.declared.Job.{Job}
 pub use Rattle.model.specs.Jobs.{cubic, line}
 use Rattle.model.specs.Jobs.{Component, Edge}
@@ -16,6 +20,10 @@ AllHold H (f ∷ fs) = H f × AllHold H fs
 infixr 4 _and_
 pub _and_ : {A B : Type 0} → A → B → A × B
 a and b = (a, b)
+
+-- of two numbers one is the lesser, by computation
+pub unequal : (a b : ℤ) → T (ltZ b a) → a ≡ b → ⊥
+unequal a b t e = <ℤ-irrefl (subst (λ z. b ≺ z) e (ltZ-yes t))
 
 -- ---- shorthands
 abbrev pub edge : Component → Component → Edge

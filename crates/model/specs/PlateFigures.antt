@@ -1,6 +1,6 @@
 -- Figures on either side of each number and each comparison that a result shows, of exploring, the plate and the distance of a point.
 -- Everything is computed. Assumes nothing.
-use mathlib.Core.Path.{_≡_, refl, subst}
+use mathlib.Core.Path.{_≡_, refl}
 use mathlib.Core.Bool.{Bool, true, false, _&&_}
 use mathlib.Core.Logic.{_⊎_, inl, inr}
 use mathlib.Core.List.{List, [], _∷_}
@@ -8,8 +8,7 @@ use Prim.Native.Nat.{ℕ, zero, suc}
 use Prim.Native.String.{String}
 use lib.Dec.{T}
 use lib.IntN.{ℤ, pos, negsuc}
-use lib.Signed.{ltZ, ltZ-yes, <ℤ-irrefl}
-use Rattle.basics.specs.Orders.{_≺_}
+use lib.Signed.{ltZ}
 use Rattle.basics.specs.Lists.{table, rowMajor}
 use Rattle.basics.specs.Numbers.{absℤ}
 use Rattle.model.specs.declared.Job.{Job}
@@ -23,7 +22,7 @@ use Rattle.model.specs.Roots.{rootBy, root}
 use Rattle.model.specs.Explore.{Cell, Answer, inside, away, maybe, isInside, isAway₁, isAway₂, byTests, judged, join, explore, exploreAll}
 use Rattle.model.specs.Plates.{Verdict, clear, within, doubtful, mixed, letter, drawn, mapped, mapOf}
 use Rattle.model.specs.Distance.{leaves, leavesAll, leavesAt, least, lo, hi, Attains}
-use Rattle.model.specs.FigureTables.{AllHold, _and_, side, stripOf, job}
+use Rattle.model.specs.FigureTables.{AllHold, _and_, unequal, side, stripOf, job}
 
 pub data Figure : Type 0 where
   -- the three tests of a cell and a strip at reach r: inside, away by the boxes, away across the axis
@@ -110,6 +109,13 @@ level = job (pos 0) (pos 0) (pos 0) (pos 0) (pos 1) (pos 1) 2 (pos 0 ∷ pos 0 �
 -- a slanted edge, which is halved once
 abbrev pub slanted : Job
 slanted = job (pos 3) (pos 6) (pos 4) (pos 2) (pos 6) (pos 4) 1 (pos 11 ∷ pos 16 ∷ pos 6 ∷ pos 16 ∷ pos 12 ∷ pos 14 ∷ pos 13 ∷ pos 22 ∷ [])
+
+-- a bowed edge of two leaves; a point edge at (10, 7), and after it the slanted one
+abbrev pub bowed : Job
+bowed = job (pos 0) (pos 0) (pos 0) (pos 0) (pos 1) (pos 4) 1 (pos 12 ∷ pos 9 ∷ pos 2 ∷ pos 0 ∷ pos 9 ∷ pos 10 ∷ pos 6 ∷ pos 7 ∷ [])
+
+abbrev pub both : Job
+both = job (pos 0) (pos 0) (pos 0) (pos 0) (pos 1) (pos 4) 2 (pos 10 ∷ pos 7 ∷ pos 10 ∷ pos 7 ∷ pos 10 ∷ pos 7 ∷ pos 10 ∷ pos 7 ∷ pos 11 ∷ pos 16 ∷ pos 6 ∷ pos 16 ∷ pos 12 ∷ pos 14 ∷ pos 13 ∷ pos 22 ∷ [])
 
 abbrev pub here : Cell
 here = cell (pos 10) (negsuc 19) (pos 7)
@@ -211,14 +217,19 @@ plateFigures =
     ∷ bounds slanted (pos 9) (pos 18) (pos 100) (pos 2677)
     ∷ bounds slanted (pos 14) (pos 16) (pos 100) (pos 8149)
     ∷ bounds slanted (pos 9) (pos 16) (pos 0) (pos 1205)
-    -- an edge is named for the farthest point of a leaf, where that gives hi
-    ∷ named slanted (pos 9) (pos 18) 0
+    -- the first leaf is the closest one, and the second alone attains the greater bound
+    ∷ bounds bowed (pos 11) (pos 13) (pos 3844) (pos 21124)
+    ∷ named bowed (pos 11) (pos 13) 0
+    -- the edge that attains the greater bound, and not the one that attains the lesser
+    ∷ bounds both (pos 9) (pos 11) (pos 3349) (pos 4352)
+    ∷ named both (pos 9) (pos 11) 0
+    ∷ not-named both (pos 9) (pos 11) 1
     ∷ []
 
 -- ---- the statements
 -- the one strip of an edge is farther than the bound
 apart : (a b : ℤ) → T (ltZ b a) → (a ≡ b) ⊎ ⊥ → ⊥
-apart a b t (inl e) = <ℤ-irrefl (subst (λ z. b ≺ z) e (ltZ-yes t))
+apart a b t (inl e) = unequal a b t e
 apart a b t (inr h) = h
 
 pub exploring-holds : AllHold Holds exploreFigures
@@ -239,5 +250,6 @@ plates-hold =
     refl and refl and refl and refl and refl and refl and refl and refl and refl and refl and refl and refl and refl and refl and refl and refl and refl and refl
     and (refl, refl) and inl refl and apart (pos 14848) (pos 6400) tt and (refl, refl) and apart (pos 41472) (pos 1280) tt and inl refl and (λ h. h) and inl refl and inl refl
     and (refl, refl) and (refl, refl) and (refl, refl)
-    and inl refl
+    and (refl, refl) and inr (inl refl)
+    and (refl, refl) and inl refl and (λ h. elim h [ inl e ↦ apart (pos 8381) (pos 4352) tt (inl e) | inr k ↦ apart (pos 36941) (pos 4352) tt k ])
     and tt

@@ -8,7 +8,7 @@ use lib.IntN.{ℤ, pos, negsuc}
 use Rattle.basics.specs.Numbers.{_^ℤ_, absℤ}
 use Rattle.model.specs.declared.Job.{Job}
 use Rattle.model.specs.Jobs.{Edge, edgesFrom, outline, isZero}
-use Rattle.model.specs.Strips.{Side, Strip, curved, straight, sideAt, strip, short}
+use Rattle.model.specs.Strips.{Side, Strip, padOf, curved, straight, sideAt, strip, short}
 use Rattle.model.specs.Trees.{Tree, leaf, long, node, pieces, tree, anyLong}
 use Rattle.model.specs.Sheets.{same}
 use Rattle.model.specs.Store.{flatten, forest, nodesOf, storeOf, begins}
@@ -20,6 +20,8 @@ pub data Figure : Type 0 where
   power-of : ℤ → ℕ → ℤ → Figure
   -- the strip of piece k of depth d
   strip-of : Edge → ℕ → ℕ → Side → Side → Figure
+  -- the pad for so many quotients that are not whole
+  pad-of : ℕ → ℕ → Figure
   -- whether a strip is short at grain T
   short-at : ℤ → Strip → Bool → Figure
   -- the tree of piece k of depth d at grain T, which may still be halved so often, where the strips show depth and number
@@ -57,6 +59,7 @@ shown d k = span (pos d) (pos k) (pos 2) (pos 2)
 abbrev pub Holds : Figure → Type 0
 Holds (power-of z n p) = z ^ℤ n ≡ p
 Holds (strip-of e d k x y) = strip e d k ≡ stripOf x y
+Holds (pad-of r p) = padOf r ≡ p
 Holds (short-at T s b) = short T s ≡ b
 Holds (pieces-of T left d k t) = pieces T shown left d k ≡ t
 Holds (tree-of T e ns) = flatten (tree T e) ≡ ns
@@ -82,8 +85,17 @@ stripFigures =
     ∷ strip-of (edge (cubic (negsuc 8) (pos 2) (pos 3) (negsuc 5)) (cubic (negsuc 17) (pos 2) (pos 6) (negsuc 5))) 2 2 (side (negsuc 4) (negsuc 8) (pos 5)) (side (pos 6) (pos 0) (pos 6))
     ∷ strip-of (edge (cubic (negsuc 17) (pos 2) (pos 6) (negsuc 5)) (cubic (negsuc 0) (pos 0) (negsuc 4) (pos 0))) 2 3 (side (negsuc 41) (negsuc 47) (pos 6)) (side (negsuc 19) (pos 17) (pos 4))
     ∷ strip-of (edge (cubic (pos 0) (pos 1) (pos 2) (pos 3)) (cubic (pos 0) (negsuc 0) (negsuc 1) (negsuc 2))) 4 9 (side (pos 29) (pos 2) (pos 1)) (side (negsuc 27) (negsuc 0) (pos 1))
+    -- of the axis and the second, of the centre and the third, of the second and the third
+    ∷ strip-of (edge (cubic (pos 0) (pos 1) (pos 66) (pos 195)) (cubic (pos 0) (pos 1) (pos 2) (pos 4099))) 4 3 (side (pos 159) (pos 44) (pos 3)) (side (pos 718) (pos 297) (pos 23))
+    ∷ strip-of (edge (cubic (pos 0) (pos 1) (pos 66) (pos 4291)) (cubic (pos 0) (negsuc 0) (negsuc 65) (negsuc 4290))) 4 3 (side (pos 866) (pos 339) (pos 25)) (side (negsuc 865) (negsuc 338) (pos 23))
     -- all four, above zero and below
     ∷ strip-of (edge (cubic (pos 0) (pos 0) (pos 0) (negsuc 0)) (cubic (pos 0) (pos 0) (pos 0) (pos 1))) 1 1 (side (negsuc 7) (negsuc 6) (pos 3)) (side (pos 8) (pos 7) (pos 3))
+    -- half of a count, rounded up
+    ∷ pad-of 0 0
+    ∷ pad-of 1 1
+    ∷ pad-of 2 1
+    ∷ pad-of 3 2
+    ∷ pad-of 4 2
     -- 16 fine units are a grain of 1: just short, and not, in either coordinate
     ∷ short-at (pos 1) (span (negsuc 13) (pos 0) (pos 2) (pos 2)) true
     ∷ short-at (pos 1) (span (negsuc 14) (pos 0) (pos 2) (pos 2)) false
@@ -153,7 +165,7 @@ stripFigures =
 pub strips-hold : AllHold Holds stripFigures
 unfolding strip curved straight sideAt absℤ tree pieces forest outline edgesFrom isZero begins same root rootBy
 strips-hold =
-    refl and refl and refl and refl and refl and refl and refl and refl
+    refl and refl and refl and refl and refl and refl and refl and refl and refl and refl and refl and refl and refl and refl and refl
     and refl and refl and refl and refl and refl and refl and refl and refl and refl and refl and refl and refl and refl and refl and refl and refl and refl
     and refl and refl and refl and refl
     and (refl, refl)
