@@ -2,10 +2,10 @@
 use nodes::Extent;
 use rounding::Quotient;
 ghost use mathlib.Core.Path.{_≡_};
-ghost use mathlib.Core.Bool.{true, false, cond};
+ghost use mathlib.Core.Bool.{true, false};
 ghost use Prim.Native.Nat.{_≤_, _<_};
 ghost use lib.Dec.{T};
-ghost use lib.IntN.{pos, natAbs};
+ghost use lib.IntN.{natAbs};
 ghost use lib.Signed.{nonNeg};
 ghost use Rattle.model.specs.Jobs.{cubic, line};
 ghost use Rattle.model.specs.Strips.{a0, a1, a2, numerators, padOf, straight, sideAt, fits, short};

@@ -1,6 +1,5 @@
 -- Nothing wraps; n times the nearest number is no larger than x and n together, and is x just where the quotient is whole. Assumes nothing.
 use mathlib.Core.Path.{_≡_, sym, ap₂, _∙_}
-use mathlib.Core.Bool.{cond}
 use Prim.Native.Nat.{ℕ, _*_}
 use native.Mathlib.Nat.{le-trans}
 use native.Mathlib.Omega.{arith}
@@ -9,7 +8,7 @@ use lib.IntN.{ℤ, pos, natAbs, _+ℤ_, _*ℤ_}
 use mir.Syntax.{w64}
 use mir.Val.{toZ, ofZ}
 use Rattle.integers.specs.Rounding.{nearest}
-use Rattle.integers.specs.Whole.{rest, rest-told, back-size}
+use Rattle.integers.specs.Whole.{rest-told, back-size}
 use Rattle.integers.specs.Signed.{Made, arg, arg-pos, lit, plus, times, back, called, read64, natAbs-mul, test-eq, test-ne}
 use Rattle.rounding.proofs.rounded.Statement.{statement}
 use Rattle.rounding.proofs.rounded.Tie as tie

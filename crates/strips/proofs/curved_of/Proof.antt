@@ -14,7 +14,7 @@ use Rattle.nodes.specs.declared.Extent.{Extent}
 use Rattle.nodes.specs.Structs.{side, stripOf}
 use Rattle.strips.specs.declared.Power.{Power}
 use Rattle.strips.specs.declared.Quotients.{Quotients}
-use Rattle.strips.specs.Structs.{form, tops, TopsSized, leftAll, padded, RoundedAll, curvedBoth}
+use Rattle.strips.specs.Structs.{form, leftAll, padded, RoundedAll, curvedBoth}
 use Rattle.strips.proofs.Roundings.{padded-is}
 use borrow.Author.Needs.{needs}
 use Rattle.strips.proofs.curved_of.Statement.{statement}

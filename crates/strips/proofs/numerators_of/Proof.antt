@@ -1,6 +1,5 @@
 -- Nothing wraps, and each numerator is the model's. Assumes nothing.
-use mathlib.Core.Path.{_≡_, sym, subst}
-use lib.IntN.{ℤ}
+use mathlib.Core.Path.{sym, subst}
 use mir.Facts.{toZ-ofZ}
 use Rattle.integers.specs.Signed.{Made, held, lit, widen, plus, times, back}
 use Rattle.model.specs.Strips as model
