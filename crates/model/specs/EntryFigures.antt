@@ -31,7 +31,7 @@ use Rattle.model.specs.Plates.{drawn, mapped, mapOf}
 use Rattle.model.specs.Distance.{leaves, leavesAll, leavesAt, least}
 use Rattle.model.specs.Entries.{readChecks, readAnswer, read, writeRefusal, write, writeLeaves, mapRefusal, map, mapStore, mapCells, pointRefusal, IsNearest}
 use Rattle.model.specs.Printing.{rowText, rowsText, mapForm, refusedForm, mapText, storeLent, cellsLent, answered, mapAnswered, printed}
-use Rattle.model.specs.FigureTables.{AllHold, _and_, unequal, job}
+use Rattle.model.specs.FigureTables.{AllHold, _and_, unequal, job, mixedJob}
 
 pub data Figure : Type 0 where
   -- whether the numbers of some checks rise, from n on
@@ -94,16 +94,12 @@ pair = job (pos 0) (pos 0) (pos 1) (pos 0) (pos 9) (pos 10) 2 (replicate 8 (pos 
 abbrev pub pairStore : List ℤ
 pairStore = soundStore ++ (pos 160 ∷ pos 112 ∷ pos 0 ∷ pos 0 ∷ pos 0 ∷ pos 0 ∷ pos 1 ∷ [])
 
--- a point edge at (10, 7), and a slanted edge, which is halved once
-abbrev pub bent : Job
-bent = job (pos 0) (pos 0) (pos 1) (pos 0) (pos 9) (pos 4) 2 (pos 10 ∷ pos 7 ∷ pos 10 ∷ pos 7 ∷ pos 10 ∷ pos 7 ∷ pos 10 ∷ pos 7 ∷ pos 11 ∷ pos 16 ∷ pos 6 ∷ pos 16 ∷ pos 12 ∷ pos 14 ∷ pos 13 ∷ pos 22 ∷ [])
+-- a point edge at (10, 7), and a slanted line
+abbrev pub ruled : Job
+ruled = mixedJob (pos 0) (pos 0) (pos 1) (pos 0) (pos 9) (pos 4) 2 (pos 10 ∷ pos 7 ∷ pos 10 ∷ pos 7 ∷ pos 10 ∷ pos 7 ∷ pos 10 ∷ pos 7 ∷ pos 11 ∷ pos 16 ∷ pos 13 ∷ pos 14 ∷ []) (pos 0 ∷ pos 1 ∷ [])
 
-abbrev pub bentStore : List ℤ
-bentStore =
-    pos 160 ∷ pos 112 ∷ pos 0 ∷ pos 0 ∷ pos 0 ∷ pos 0 ∷ pos 1
-    ∷ pos 174 ∷ pos 280 ∷ pos 24 ∷ pos 42 ∷ pos 26 ∷ pos 30 ∷ pos 3
-    ∷ pos 156 ∷ pos 255 ∷ negsuc 8 ∷ negsuc 0 ∷ pos 13 ∷ pos 5 ∷ pos 1
-    ∷ pos 184 ∷ pos 294 ∷ pos 27 ∷ pos 47 ∷ pos 3 ∷ pos 14 ∷ pos 1 ∷ []
+abbrev pub ruledStore : List ℤ
+ruledStore = pos 160 ∷ pos 112 ∷ pos 0 ∷ pos 0 ∷ pos 0 ∷ pos 0 ∷ pos 1 ∷ pos 192 ∷ pos 240 ∷ pos 16 ∷ negsuc 15 ∷ pos 0 ∷ pos 0 ∷ pos 1 ∷ []
 
 abbrev pub answer : ℕ → ℤ → ℤ → ℕ → Nearest
 answer k l h e = record { refusal = k; lo = l; hi = h; edge = e }
@@ -186,11 +182,11 @@ pointFigures =
     ∷ point-of pair (pos 9) (pos 1) pairStore (record { refusal = 0; lo = pos 9472; hi = pos 9472; edge = 1 })
     ∷ point-of pair (pos 4) (pos 12) pairStore (record { refusal = 0; lo = pos 15616; hi = pos 15616; edge = 1 })
     -- the bounds apart: edge 0 attains the greater one, and edge 1 the lesser. No number of the answer may be another
-    ∷ point-of bent (pos 9) (pos 11) bentStore (answer 0 (pos 3349) (pos 4352) 0)
-    ∷ not-point-of bent (pos 9) (pos 11) bentStore (answer 1 (pos 3349) (pos 4352) 0)
-    ∷ not-point-of bent (pos 9) (pos 11) bentStore (answer 0 (pos 4352) (pos 4352) 0)
-    ∷ not-point-of bent (pos 9) (pos 11) bentStore (answer 0 (pos 3349) (pos 4353) 0)
-    ∷ not-point-of bent (pos 9) (pos 11) bentStore (answer 0 (pos 3349) (pos 4352) 1)
+    ∷ point-of ruled (pos 9) (pos 11) ruledStore (answer 0 (pos 3328) (pos 4352) 0)
+    ∷ not-point-of ruled (pos 9) (pos 11) ruledStore (answer 1 (pos 3328) (pos 4352) 0)
+    ∷ not-point-of ruled (pos 9) (pos 11) ruledStore (answer 0 (pos 4352) (pos 4352) 0)
+    ∷ not-point-of ruled (pos 9) (pos 11) ruledStore (answer 0 (pos 3328) (pos 4353) 0)
+    ∷ not-point-of ruled (pos 9) (pos 11) ruledStore (answer 0 (pos 3328) (pos 4352) 1)
     ∷ not-point-of sound off (pos 4) soundStore (answer 3 (pos 0) (pos 0) 1)
     ∷ point-of sound off (pos 4) soundStore (refused 3)
     ∷ point-of sound (pos 3) (pos 4) [] (refused 6)
@@ -242,9 +238,9 @@ asking-holds =
     and (record { refusal-is = refl; lo-is = refl; hi-is = refl; edge-is = inl refl })
     and (record { refusal-is = refl; lo-is = refl; hi-is = refl; edge-is = inl refl })
     and (λ h. one (h .refusal-is))
-    and (λ h. unequal (pos 4352) (pos 3349) tt (h .lo-is))
+    and (λ h. unequal (pos 4352) (pos 3328) tt (h .lo-is))
     and (λ h. unequal (pos 4353) (pos 4352) tt (h .hi-is))
-    and (λ h. elim (h .edge-is) [ inl e ↦ unequal (pos 8381) (pos 4352) tt e | inr k ↦ elim k [ inl e ↦ unequal (pos 36941) (pos 4352) tt e | inr z ↦ z ] ])
+    and (λ h. elim (h .edge-is) [ inl e ↦ unequal (pos 10496) (pos 4352) tt e | inr z ↦ z ])
     and (λ h. one (h .edge-is))
     and (record { refusal-is = refl; lo-is = refl; hi-is = refl; edge-is = refl })
     and (record { refusal-is = refl; lo-is = refl; hi-is = refl; edge-is = refl })
