@@ -25,6 +25,7 @@ sideBy t c n m = cond t (straight (c .c0) (c .c1) n m) (curved (form c) n m)
 abbrev pub tops : Numerators → model.Numerators
 tops t = record { centre = t .centre; axis = t .axis; second = t .second; third = t .third }
 
+-- what `rounded` takes: twice as much and N³ stay below 2^63
 abbrev pub topMost : ℕ
 topMost = 3900000000000000000
 
