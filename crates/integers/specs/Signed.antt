@@ -55,6 +55,10 @@ pub record Made (v z : ℤ) (B : ℕ) : Type 0 where
   pub within : natAbs z ≤ B
   pub fits : SFits w64 v
 
+-- a number through its bits, as the checker shows an operand
+abbrev pub bits : ℤ → ℤ
+bits u = toZ w64 (ofZ w64 u)
+
 -- the value read back from its bits
 pub back : {v z : ℤ} {B : ℕ} → Made v z B → toZ w64 (ofZ w64 v) ≡ z
 back m = toZ-ofZ (m .fits) ∙ m .is

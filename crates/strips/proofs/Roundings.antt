@@ -1,16 +1,14 @@
--- A cubic's numerators, and the strip that their quotients make. Assumes nothing.
+-- A cubic's numerators, the strip that their quotients make, and what rounding asks and gives, of a cubic's and of a line's. Assumes nothing.
 use mathlib.Core.Path.{_≡_, ap, _∙_}
 use mathlib.Core.Bool.{cond}
 use Prim.Native.Nat.{ℕ, _+_, _≤_, _<_}
 use lib.Dec.{T}
 use lib.IntN.{ℤ, pos, natAbs, _+ℤ_}
 use lib.Signed.{nonNeg}
-use mir.Syntax.{w64}
-use mir.Val.{toZ, ofZ}
 use Rattle.integers.specs.Absolute.{absℤ}
 use Rattle.integers.specs.Rounding.{nearest}
 use Rattle.integers.specs.Whole.{rest}
-use Rattle.integers.specs.Signed.{Made, back}
+use Rattle.integers.specs.Signed.{Made, bits, back}
 use Rattle.model.specs.Strips.{Numerators, padOf, sideOver}
 use Rattle.ranges.specs.PowerForm.{cubeMost}
 use Rattle.nodes.specs.Places.{side-eq}
@@ -31,10 +29,10 @@ padded-is q a k p h e = side-eq (h .centre .nearest-is) (h .axis .nearest-is) (b
     counts : {a b c d p q r s : ℕ} → p ≡ a → q ≡ b → r ≡ c → s ≡ d → a + b + c + d ≡ p + q + r + s
     counts e f g h = cc
 
--- what `rounded` asks of a numerator and N³, and what it gives
+-- what `rounded` asks of a numerator and its denominator, N³ or a line's N, and what it gives
 module _ {u v x : ℤ} {k : ℕ} (t : Made u x topMost) (cube : Made v (pos k) cubeMost) where
-  pub asks : 0 < k → (natAbs (toZ w64 (ofZ w64 u)) ≤ 3900000000000000000) × (natAbs (toZ w64 (ofZ w64 v)) ≤ 8589934592) × (0 < natAbs (toZ w64 (ofZ w64 v))) × T (nonNeg (toZ w64 (ofZ w64 v)))
+  pub asks : 0 < k → (natAbs (bits u) ≤ topMost) × (natAbs (bits v) ≤ cubeMost) × (0 < natAbs (bits v)) × T (nonNeg (bits v))
   asks h = rw (back t, back cube) (t .within, cube .within, h, tt)
 
-  pub gives : {q : Quotient} → (q .nearest ≡ nearest (toZ w64 (ofZ w64 u)) (natAbs (toZ w64 (ofZ w64 v)))) × (rest (toZ w64 (ofZ w64 u)) (natAbs (toZ w64 (ofZ w64 v))) ≡ cond (q .whole) 0 1) → Rounded q x k
+  pub gives : {q : Quotient} → (q .nearest ≡ nearest (bits u) (natAbs (bits v))) × (rest (bits u) (natAbs (bits v)) ≡ cond (q .whole) 0 1) → Rounded q x k
   gives h = let e = rw (back t, back cube) at h in record { nearest-is = e .0; rest-is = e .1 }

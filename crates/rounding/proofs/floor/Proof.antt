@@ -7,10 +7,8 @@ use native.Mathlib.Omega.{arith}
 use borrow.Author.Tests.{ltb-true, ltb-false, leb-true, leb-false, le-ltb}
 use lib.IntN.{ℤ, pos, negsuc, natAbs, _-ℤ_}
 use lib.Signed.{ltZ, quotZ}
-use mir.Syntax.{w64}
-use mir.Val.{toZ, ofZ}
 use Rattle.integers.specs.Tests.{sign}
-use Rattle.integers.specs.Signed.{Made, arg, arg-pos, held, minus, over, above-zero, back, floor-law}
+use Rattle.integers.specs.Signed.{Made, bits, arg, arg-pos, held, minus, over, above-zero, back, floor-law}
 use Rattle.rounding.proofs.floor.Statement.{statement}
 use Rattle.rounding.proofs.floor.Tie as tie
 
@@ -27,10 +25,10 @@ module _ (c : tie.Start) where
   one : Made (negsuc 0) (negsuc 0) 1
   one = held (negsuc 0) (omega arith) tt
 
-  turned : Made (negsuc 0 -ℤ toZ w64 (ofZ w64 (c .args .y))) (negsuc 0 -ℤ c .args .y) 7900000000000000001
+  turned : Made (negsuc 0 -ℤ bits (c .args .y)) (negsuc 0 -ℤ c .args .y) 7900000000000000001
   turned = minus one y tt
 
-  q : Made (quotZ (toZ w64 (ofZ w64 (negsuc 0 -ℤ toZ w64 (ofZ w64 (c .args .y))))) (toZ w64 (ofZ w64 (c .args .d)))) (quotZ (negsuc 0 -ℤ c .args .y) (pos k)) 7900000000000000001
+  q : Made (quotZ (bits (negsuc 0 -ℤ bits (c .args .y))) (bits (c .args .d))) (quotZ (negsuc 0 -ℤ c .args .y) (pos k)) 7900000000000000001
   q = over turned d tt
 
 -- a test's answer as a number

@@ -6,15 +6,12 @@ use native.Mathlib.Omega.{arith}
 use lib.Dec.{eqb}
 use lib.IntN.{ℤ, pos, natAbs, _+ℤ_, _*ℤ_}
 use mir.Syntax.{w64}
-use mir.Val.{toZ, ofZ}
+use mir.Val.{ofZ}
 use Rattle.integers.specs.Rounding.{nearest}
 use Rattle.integers.specs.Whole.{rest-told, back-size}
-use Rattle.integers.specs.Signed.{Made, arg, arg-pos, lit, plus, times, back, called, read64, natAbs-mul, test-eq, test-ne}
+use Rattle.integers.specs.Signed.{Made, bits, arg, arg-pos, lit, plus, times, back, called, read64, natAbs-mul, test-eq, test-ne}
 use Rattle.rounding.proofs.rounded.Statement.{statement}
 use Rattle.rounding.proofs.rounded.Tie as tie
-
-abbrev bits : ℤ → ℤ
-bits u = toZ w64 (ofZ w64 u)
 
 module _ (c : tie.Start) where
   abbrev k : ℕ

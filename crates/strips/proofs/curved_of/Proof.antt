@@ -3,10 +3,8 @@ use mathlib.Core.Path.{_≡_, ap, ap₂, _∙_, subst, sym}
 use Prim.Native.Nat.{ℕ, _*_, _≤_}
 use native.Mathlib.Nat.{le-trans}
 use lib.IntN.{ℤ, pos, natAbs, _*ℤ_}
-use mir.Syntax.{w64}
-use mir.Val.{toZ, ofZ}
 use mir.Facts.{toZ-ofZ}
-use Rattle.integers.specs.Signed.{Made, held, times, back}
+use Rattle.integers.specs.Signed.{Made, bits, held, times, back}
 use Rattle.model.specs.Strips.{Side, Strip, Numerators, numerators, padOf, curved, short}
 use Rattle.ranges.specs.Sizes.{Sized}
 use Rattle.ranges.specs.PowerForm.{FormSized, nMost, cubeMost, secondMost, thirdMost, padMost, cube-above, second-in, third-in, curved-sized}
@@ -19,9 +17,6 @@ use Rattle.strips.proofs.Roundings.{padded-is}
 use borrow.Author.Needs.{needs}
 use Rattle.strips.proofs.curved_of.Statement.{statement}
 use Rattle.strips.proofs.curved_of.Tie as tie
-
-abbrev bits : ℤ → ℤ
-bits u = toZ w64 (ofZ w64 u)
 
 module _ (s : tie.Start) where
   n : Made (pos (s .args .n)) (pos (s .args .n)) nMost

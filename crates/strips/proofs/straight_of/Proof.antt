@@ -1,15 +1,16 @@
 -- Nothing wraps; both quotients are rounded by `rounded`, and the box counts those that are not whole. Assumes nothing.
-use mathlib.Core.Path.{_≡_, sym, ap, _∙_}
+use mathlib.Core.Path.{ap, _∙_}
 use Prim.Native.Nat.{_+_}
 use native.Mathlib.Nat.{le-trans}
 use native.Mathlib.Omega.{arith}
 use lib.IntN.{ℤ, pos}
-use Rattle.integers.specs.Signed.{Made, held, lit, widen, plus, times, back, called}
-use Rattle.integers.specs.Signed.{read64}
+use Rattle.integers.specs.Signed.{Made, held, lit, widen, plus, times, back, called, read64}
 use Rattle.integers.specs.Whole.{rest, rest-most}
 use Rattle.model.specs.Strips.{centreTop, axisTop, straight}
-use Rattle.ranges.specs.PowerForm.{c0Most, c1Most, nMost}
+use Rattle.ranges.specs.PowerForm.{c0Most, c1Most, nMost, cubeMost}
 use Rattle.nodes.specs.Places.{side-eq}
+use Rattle.strips.specs.Structs.{topMost, Rounded}
+use Rattle.strips.proofs.Roundings.{asks, gives}
 use borrow.Author.Needs.{needs}
 use Rattle.strips.proofs.straight_of.Statement.{statement}
 use Rattle.strips.proofs.straight_of.Tie as tie
@@ -49,7 +50,7 @@ rounded-requires : tie.Need-rounded-requires
 rounded-requires c κs =
     let s = c .before .before in
     let t = times (lit 16 tt) (plus (times (a s) (n s) tt) (times (g s) (m s) tt) tt) tt in
-    rw (back t, back (n s)) ((widen 3900000000000000000 t tt) .within, omega (arith, s .pre .2), omega (arith, s .pre .1), tt)
+    asks (widen topMost t tt) (widen cubeMost (n s) tt) (omega (arith, s .pre .1))
 
 mul-rounded-4 : tie.Need-mul-rounded-4
 mul-rounded-4 c = (times (lit 16 tt) (g (c .before .before .before)) tt) .fits
@@ -58,7 +59,7 @@ rounded-requires-2 : tie.Need-rounded-requires-2
 rounded-requires-2 c κs =
     let s = c .before .before .before in
     let t = times (lit 16 tt) (g s) tt in
-    rw (back t, back (n s)) ((widen 3900000000000000000 t tt) .within, omega (arith, s .pre .2), omega (arith, s .pre .1), tt)
+    asks (widen topMost t tt) (widen cubeMost (n s) tt) (omega (arith, s .pre .1))
 
 slack-requires : tie.Need-slack-requires
 slack-requires c κs = search needs
@@ -66,9 +67,9 @@ slack-requires c κs = search needs
 slack-requires-2 : tie.Need-slack-requires-2
 slack-requires-2 c κs = search needs
 
-module _ (c : tie.After-slack2) where
+module _ (c : tie.After-rounded2) where
   abbrev start : tie.Start
-  start = c .before .before .before .before .before .before
+  start = c .before .before .before .before
 
   abbrev A : ℤ
   A = centreTop (start .args .c .c0) (start .args .c .c1) (pos (start .args .n)) (pos (start .args .m))
@@ -76,17 +77,19 @@ module _ (c : tie.After-slack2) where
   abbrev B : ℤ
   B = axisTop (start .args .c .c1)
 
-  -- what each quotient adds
-  of-centre : rest A (start .args .n) ≡ c .before .slack .result
+  of-centre : Rounded (c .before .rounded .result) A (start .args .n)
   of-centre =
       let s = start in
-      rw (back (times (lit 16 tt) (plus (times (a s) (n s) tt) (times (g s) (m s) tt) tt) tt), back (n s)) at (c .before .before .before .rounded .ensures .1) ∙ sym (c .before .slack .ensures .0)
+      let t = times (lit 16 tt) (plus (times (a s) (n s) tt) (times (g s) (m s) tt) tt) tt in
+      gives (widen topMost t tt) (widen cubeMost (n s) tt) (c .before .rounded .ensures)
 
-  of-axis : rest B (start .args .n) ≡ c .slack2 .result
-  of-axis = let s = start in rw (back (times (lit 16 tt) (g s) tt), back (n s)) at (c .before .before .rounded2 .ensures .1) ∙ sym (c .slack2 .ensures .0)
+  of-axis : Rounded (c .rounded2 .result) B (start .args .n)
+  of-axis = let s = start in let t = times (lit 16 tt) (g s) tt in gives (widen topMost t tt) (widen cubeMost (n s) tt) (c .rounded2 .ensures)
 
-  half : Made (pos (c .before .slack .result + c .slack2 .result)) (pos (rest A (start .args .n) + rest B (start .args .n))) 2
-  half = called (ap pos (omega (arith, of-centre, of-axis))) (omega (arith, rest-most A (start .args .n), rest-most B (start .args .n))) tt
+half : (c : tie.After-slack2) → let b = c .before .before in Made (pos (c .before .slack .result + c .slack2 .result)) (pos (rest (A b) (start b .args .n) + rest (B b) (start b .args .n))) 2
+half c =
+    let b = c .before .before in
+    called (ap pos (omega (arith, of-centre b .rest-is, of-axis b .rest-is, c .before .slack .ensures .0, c .slack2 .ensures .0))) (omega (arith, rest-most (A b) (start b .args .n), rest-most (B b) (start b .args .n))) tt
 
 add-half : tie.Need-add-half
 add-half c = search needs
@@ -98,12 +101,8 @@ returns : tie.Need-returns
 unfolding straight
 returns c =
     let b = c .before .before in
-    let s = start b in
-    let first = b .before .before .before .rounded in
-    let second = b .before .before .rounded2 in
-    let e = rw (back (times (lit 16 tt) (plus (times (a s) (n s) tt) (times (g s) (m s) tt) tt) tt), back (n s)) at (first .ensures .0) in
-    let f = rw (back (times (lit 16 tt) (g s) tt), back (n s)) at (second .ensures .0) in
-    side-eq (read64 (first .result .nearest) (c .before .struct-told3 .given .0 .1) ∙ e) (read64 (second .result .nearest) (c .struct-told4 .given .0 .1) ∙ f) (back (half b))
+    let r = b .before .before in
+    side-eq (read64 (r .before .rounded .result .nearest) (c .before .struct-told3 .given .0 .1) ∙ of-centre r .nearest-is) (read64 (r .rounded2 .result .nearest) (c .struct-told4 .given .0 .1) ∙ of-axis r .nearest-is) (back (half b))
 
 pub straight-of-spec : {M : Type 1} → statement M
 straight-of-spec =
