@@ -16,9 +16,9 @@ pub struct Cell {
 /// What a strip, a tree or the whole outline says of a cell.
 #[derive(Clone, Copy, Debug, PartialEq, Eq)]
 pub enum Answer {
-    /// Everything of it is out of reach of all the cell.
+    /// Nothing of it is nearer than the reach to any of the cell.
     Away,
-    /// One strip of it is within reach of all the cell.
+    /// One strip of it is nearer than the reach to all the cell.
     Inside,
     /// Neither is known.
     Maybe,
@@ -54,8 +54,13 @@ fn tree_answer(cell: Cell, tree: &Tree, reach: i64) -> Answer {
     }
 }
 
-/// What one strip says by itself. No cell is both inside and away.
-fn strip_answer(cell: Cell, strip: &Strip, r: i64) -> Answer {
+/// What one strip says by itself; `r` is the reach in fine units, from 1 up.
+///
+/// No cell is both inside and away, also where a test comes out equal. Inside
+/// puts the middles of cell and strip nearer than r. The gap is no longer than
+/// the way between them, and the cross product with an axis that is not (0, 0)
+/// is below r times its length, so neither away test is met.
+pub fn strip_answer(cell: Cell, strip: &Strip, r: i64) -> Answer {
     let [wx, wy] = [0, 1].map(|c| cell.centre[c] - strip.centre[c]);
     let [a, b] = strip.half_box.map(|half| half + cell.half_side);
     let [p, q] = strip.axis;
@@ -68,14 +73,15 @@ fn strip_answer(cell: Cell, strip: &Strip, r: i64) -> Answer {
 
     let gap_x = (wx.abs() - p.abs() - a).max(0);
     let gap_y = (wy.abs() - q.abs() - b).max(0);
-    if gap_x * gap_x + gap_y * gap_y > r * r {
+    if gap_x * gap_x + gap_y * gap_y >= r * r {
         return Answer::Away;
     }
 
     // The same across the strip's slant: the cross product with the axis, less
-    // what the cell and the box can take off it.
+    // what the cell and the box can take off it. An axis of (0, 0) has no slant:
+    // 0 is at least 0 however near the cell is, so the test must not be asked.
     let across = (wx * q - wy * p).abs() - a * q.abs() - b * p.abs();
-    if across > r * least_root(p * p + q * q) {
+    if [p, q] != [0, 0] && across >= r * least_root(p * p + q * q) {
         return Answer::Away;
     }
     Answer::Maybe

@@ -11,7 +11,7 @@
 
 mod edge;
 mod entries;
-mod explore;
+pub mod explore;
 mod job;
 pub mod listing;
 mod plate;

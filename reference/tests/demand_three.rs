@@ -7,7 +7,7 @@ use common::brute_force::{fault, outline_points, sights, Sight};
 use common::jobs::{coarse_job, random_job};
 use common::random::Xorshift;
 use common::reckoning::remainder_counts;
-use common::{edge, finished, job_with, line};
+use common::{edge, finished, job_with, line, sample_job};
 
 /// How often each letter stands in a map: C, I, D.
 fn tally(letters: &[u8]) -> [usize; 3] {
@@ -24,6 +24,8 @@ struct Totals {
     letters: [usize; 3],
     /// D where R exceeds E, so that the band has an inner edge.
     banded: usize,
+    /// C with an outline point exactly R away.
+    touching: usize,
 }
 
 /// How many edges of a job are lines.
@@ -62,6 +64,9 @@ impl Totals {
                 assert_eq!(fault(job, &seen, &done.letters), None, "{job:?}");
                 check_that_opposites_fail(job, &seen, &done.letters);
                 self.add(job, &done.letters);
+                let clear = seen.iter().zip(&done.letters);
+                let at_reach = clear.filter(|(sight, &l)| l == b'C' && sight.touches(job));
+                self.touching += at_reach.count();
             }
         }
     }
@@ -133,6 +138,7 @@ fn random_maps_of_exact_strips_meet_demand_three() {
         totals.check_job(&job);
     }
     totals.check(999, 5_000, 800);
+    assert!(totals.touching > 10, "{}", totals.touching);
     let [exact, ..] = remainders;
     let padded: usize = remainders[1..].iter().sum();
     assert!(exact > 3 * padded && padded > 1_000, "{remainders:?}");
@@ -189,6 +195,35 @@ fn a_line_is_not_the_cubic_between_its_ends() {
         let seen = sights(job, &outline_points(job));
         assert_eq!(fault(job, &seen, &finished(job).unwrap().letters), None);
         assert!(fault(job, &seen, &finished(other).unwrap().letters).is_some());
+    }
+}
+
+/// A cell of the sample whose near side is 4 from the point may be C at reach 4,
+/// as the map has it, and not at reach 5. For I, exactly at the reach is not
+/// enough.
+#[test]
+fn a_cell_exactly_at_the_reach_is_clear() {
+    let touching = 3 * 8 + 1;
+    let mut job = sample_job();
+    for (reach, is_clear) in [(3, true), (4, true), (5, false)] {
+        job.reach = reach;
+        let sight = sights(&job, &outline_points(&job))[touching];
+        assert_eq!(sight.touches(&job), reach == 4);
+        assert_eq!(sight.allows(&job, b'C'), is_clear);
+        assert!(!sight.allows(&job, b'I'));
+        let drawn = finished(&job).unwrap().letters[touching];
+        assert_eq!(drawn == b'C', is_clear);
+    }
+
+    // One cell from (-1, -1) to (0, 0); its far corner is 5 from the point.
+    job = job_with(&[edge([2; 4], [3; 4])], 1);
+    (job.x, job.y, job.n, job.m) = (-1, -1, 0, 0);
+    for (reach, is_inside) in [(5, false), (6, true)] {
+        job.reach = reach;
+        let sight = sights(&job, &outline_points(&job))[0];
+        assert_eq!(sight.allows(&job, b'I'), is_inside);
+        let drawn = finished(&job).unwrap().letters[0];
+        assert_eq!(drawn, if is_inside { b'I' } else { b'D' });
     }
 }
 

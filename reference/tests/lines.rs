@@ -128,8 +128,11 @@ fn a_line_and_a_cubic_are_mapped() {
         [-8, 0, 0, 0, 0, 0, 0, 0, 0, 0, 4, 0, 4, 4, 4, 8]
     );
     assert_eq!(written(&job), sheet);
+    // The line touches the reach in the third and the sixth row, which settles
+    // their first three cells. The cubic's first leaf is padded by 2, so it is
+    // 30 and 28 fine units from the fourth of them, and the reach is 32.
     let wanted = [
-        "CCCCCCCC", "CCCCCCCC", "DDDDDCCC", "DDDDDDDC", "DDDDDDDC", "DDDDDDDD", "CCCCDDDD",
+        "CCCCCCCC", "CCCCCCCC", "CCCDDCCC", "DDDDDDDC", "DDDDDDDC", "CCCDDDDD", "CCCCDDDD",
         "CCCCDDDD",
     ];
     assert_eq!(rows(&finished(&job).unwrap()), wanted);
@@ -303,8 +306,8 @@ fn near_and_far(job: &Job, index: usize, ends: [i32; 4], k: i64) -> (i128, i128)
 }
 
 /// A fine polygon of a line's points, held against its map: none of them is
-/// within reach of a clear cell, and one is within reach of all of an inside
-/// cell. Every line has cells of both kinds.
+/// nearer than the reach to a clear cell, and one is nearer than the reach to
+/// all of an inside cell. Every line has cells of both kinds.
 #[test]
 fn a_map_against_a_fine_polygon() {
     let mut rng = Xorshift::new(0x0117_e500);
@@ -319,7 +322,7 @@ fn a_map_against_a_fine_polygon() {
             let seen = (0..=PARTS).map(|k| near_and_far(&job, index, ends, k));
             let (near, far) = seen.reduce(|a, b| (a.0.min(b.0), a.1.min(b.1))).unwrap();
             match letter {
-                b'C' => assert!(near > reach, "{job:?}"),
+                b'C' => assert!(near >= reach, "{job:?}"),
                 b'I' => assert!(far < reach, "{job:?}"),
                 _ => assert_eq!(*letter, b'D'),
             }

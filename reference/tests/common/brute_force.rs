@@ -9,9 +9,11 @@
 //! never failed: the letters I and D rest on one piece of depth 10 at most,
 //! both ends of which are among the parameters k/1024.
 //! - I: all of that piece is nearer than R to all of the cell.
-//! - D: that piece is a leaf whose upright box is R away at most. The box is 2T
+//! - D: that piece is a leaf whose upright box is nearer than R. The box is 2T
 //!   wide and high at most and the cell 2^M, so the farthest two points of them
 //!   are within R + (2T + 2^M)·√2, which is below R + E.
+//!
+//! C is refuted by an outline point nearer than R, not by one at R.
 
 use clearance_reference::{Edge, Job};
 
@@ -112,6 +114,11 @@ pub struct Sight {
 }
 
 impl Sight {
+    /// Whether the nearest of the outline points is exactly the reach away.
+    pub fn touches(&self, job: &Job) -> bool {
+        self.near == scaled_square(i128::from(job.reach).pow(2))
+    }
+
     /// Whether the letter may stand at a cell so seen.
     pub fn allows(&self, job: &Job, letter: u8) -> bool {
         let reach = i128::from(job.reach);
@@ -120,7 +127,7 @@ impl Sight {
         let inner = (2 * reach - band).max(0);
         let outer = 2 * reach + band;
         match letter {
-            b'C' => self.near > scaled_square(reach * reach),
+            b'C' => self.near >= scaled_square(reach * reach),
             b'I' => self.far < scaled_square(reach * reach),
             // One outline point within the band of all four corners serves
             // every point between them.

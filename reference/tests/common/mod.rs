@@ -23,16 +23,19 @@ pub const SAMPLE_SHEET: &str = "\
 )
 ";
 
-/// Its map.
+/// Its map. By columns, and by rows just so, the near sides of the cells are 6,
+/// 4, 2, 0, 0, 2, 4 and 6 from the point and the far sides 8, 6, 4, 2, 2, 4, 6
+/// and 8. The reach is 4: a near side of 6 or 4 is enough for C, two of 2 are
+/// not; two far sides of 2 are I, and 2 with 4 is too far.
 pub const SAMPLE_MAP: &str = "\
 (map 8
 (row CCCCCCCC)
-(row CCCDDCCC)
+(row CCCCCCCC)
 (row CCDDDDCC)
-(row CDDIIDDC)
-(row CDDIIDDC)
+(row CCDIIDCC)
+(row CCDIIDCC)
 (row CCDDDDCC)
-(row CCCDDCCC)
+(row CCCCCCCC)
 (row CCCCCCCC)
 )
 ";
