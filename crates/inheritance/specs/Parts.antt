@@ -1,17 +1,18 @@
 -- A cell that is a part of another: what a test says of the whole it says of the part. Assumes nothing.
-use mathlib.Core.Path.{_≡_, ap, _∙_, subst}
-use mathlib.Core.Bool.{Bool, true, false}
+use mathlib.Core.Path.{_≡_, ap, ap₂, _∙_, subst}
+use mathlib.Core.Bool.{Bool, true, false, _&&_}
+use lib.Signed.{leZ}
 use lib.IntN.{ℤ, pos, negsuc, negℤ, _+ℤ_, _-ℤ_, _*ℤ_, natAbs}
 use Rattle.integers.specs.RingSolver.{name₂, name₃, name₈, name₁₀, name₁₂, reify}
 use Rattle.integers.specs.Order.{_≼_, _≺_, _⊞_, _⊠_, gap}
 use Rattle.integers.specs.Omega.{zarith}
-use Rattle.integers.specs.Inequalities.{from, _&_, ≼-trans, ≼-≺-trans, ≺-≼-trans, ≼-*, ≼-+}
+use Rattle.integers.specs.Inequalities.{from, _&_, ≼-trans, ≼-≺-trans, ≼-*, ≼-+}
 use Rattle.integers.specs.Signed.{natAbs-neg}
 use Rattle.integers.specs.Absolute.{abs-+, absℤ, abs-nonneg, abs-≼}
 use Rattle.model.specs.Strips.{Side, Strip}
-use Rattle.model.specs.Explore.{Cell, squares, farthest, atLeast0, room, closest, isInside, isAway₁, isAway₂, lengthOf}
+use Rattle.model.specs.Explore.{Cell, squares, farthest, atLeast0, room, closest, isInside, isAway₁, isAway₂, lengthOf, hasAxis}
 use Rattle.integers.specs.Within.{Within, own-abs, times}
-use Rattle.integers.specs.Tests.{lt-true, true-lt}
+use Rattle.integers.specs.Tests.{lt-true, true-lt, le-true, true-le, both}
 use Rattle.verdicts.specs.Tests.{at0-nonneg, at0-least}
 
 -- d lies in c
@@ -75,8 +76,8 @@ module _ (r : ℤ) (c d : Cell) (part : PartOf d c) (S : Strip) where
       let ky : closest (c .cy) (c .s) (S .y) ≼ closest (d .cy) (d .s) (S .y) = at0-more (room (c .cy) (c .s) (S .y)) (room (d .cy) (d .s) (S .y)) (room-more (c .cy) (d .cy) (c .s) (d .s) (S .y) (part .alongY)) in
       let nx = at0-nonneg (room (c .cx) (c .s) (S .x)) in
       let ny = at0-nonneg (room (c .cy) (c .s) (S .y)) in
-      let l : r *ℤ r ≺ squares (closest (c .cx) (c .s) (S .x)) (closest (c .cy) (c .s) (S .y)) = lt-true e in
-      true-lt {a = r *ℤ r} (≺-≼-trans l (≼-+ (≼-* nx kx nx kx) (≼-* ny ky ny ky)))
+      let l : r *ℤ r ≼ squares (closest (c .cx) (c .s) (S .x)) (closest (c .cy) (c .s) (S .y)) = le-true e in
+      true-le {a = r *ℤ r} (≼-trans l (≼-+ (≼-* nx kx nx kx) (≼-* ny ky ny ky)))
 
 -- the cross product: the part's centre is off by (u, v), which the smaller half side makes good
 turned : (x y u v p q : ℤ) → absℤ (x *ℤ q -ℤ y *ℤ p) ≼ absℤ ((x +ℤ u) *ℤ q -ℤ (y +ℤ v) *ℤ p) +ℤ absℤ u *ℤ absℤ q +ℤ absℤ v *ℤ absℤ p
@@ -92,7 +93,7 @@ turned x y u v p q =
     high : (a b c : ℤ) → Within ((x +ℤ u) *ℤ q -ℤ (y +ℤ v) *ℤ p) a → Within (u *ℤ q) b → Within (v *ℤ p) c → x *ℤ q -ℤ y *ℤ p ≼ a +ℤ b +ℤ c
     high a b c h k l = from (h .high & k .low & l .high) (name₁₀ x y u v p q a b c c λ σ p₁ p₂ p₃ p₄ p₅ p₆ p₇ p₈ p₉ pa. simp (p₁, p₂, p₃, p₄, p₅, p₆, p₇, p₈, p₉, reify, σ) (omega zarith))
 
-made-good : (m K K′ u v P Q b e s t : ℤ) → K ≼ K′ +ℤ u *ℤ Q +ℤ v *ℤ P → pos 0 ≼ P → pos 0 ≼ Q → u +ℤ t ≼ s → v +ℤ t ≼ s → m ≺ K -ℤ (b +ℤ s) *ℤ Q -ℤ (e +ℤ s) *ℤ P → m ≺ K′ -ℤ (b +ℤ t) *ℤ Q -ℤ (e +ℤ t) *ℤ P
+made-good : (m K K′ u v P Q b e s t : ℤ) → K ≼ K′ +ℤ u *ℤ Q +ℤ v *ℤ P → pos 0 ≼ P → pos 0 ≼ Q → u +ℤ t ≼ s → v +ℤ t ≼ s → m ≼ K -ℤ (b +ℤ s) *ℤ Q -ℤ (e +ℤ s) *ℤ P → m ≼ K′ -ℤ (b +ℤ t) *ℤ Q -ℤ (e +ℤ t) *ℤ P
 made-good m K K′ u v P Q b e s t h hP hQ hu hv l =
     from (h & gap hu ⊠ hQ & gap hv ⊠ hP & l) (name₁₂ m K K′ u v P Q b e s t t λ σ p₁ p₂ p₃ p₄ p₅ p₆ p₇ p₈ p₉ pa pb pc. simp (p₁, p₂, p₃, p₄, p₅, p₆, p₇, p₈, p₉, pa, pb, reify, σ) (omega zarith))
 
@@ -108,10 +109,11 @@ module _ (r : ℤ) (c d : Cell) (part : PartOf d c) (S : Strip) where
       let v : ℤ = d .cy -ℤ c .cy in
       let p : ℤ = S .x .axis in
       let q : ℤ = S .y .axis in
+      let k = both (hasAxis S) (leZ (r *ℤ lengthOf S) _) e in
       let h : absℤ (x *ℤ q -ℤ y *ℤ p) ≼ absℤ ((x +ℤ u) *ℤ q -ℤ (y +ℤ v) *ℤ p) +ℤ absℤ u *ℤ absℤ q +ℤ absℤ v *ℤ absℤ p = turned x y u v p q in
       let h₁ : absℤ (x *ℤ q -ℤ y *ℤ p) ≼ absℤ (x′ *ℤ q -ℤ (y +ℤ v) *ℤ p) +ℤ absℤ u *ℤ absℤ q +ℤ absℤ v *ℤ absℤ p = subst (λ a. absℤ (x *ℤ q -ℤ y *ℤ p) ≼ absℤ (a *ℤ q -ℤ (y +ℤ v) *ℤ p) +ℤ absℤ u *ℤ absℤ q +ℤ absℤ v *ℤ absℤ p) (step (c .cx) (d .cx) (S .x .centre)) h in
       let h₂ : absℤ (x *ℤ q -ℤ y *ℤ p) ≼ absℤ (x′ *ℤ q -ℤ y′ *ℤ p) +ℤ absℤ u *ℤ absℤ q +ℤ absℤ v *ℤ absℤ p = subst (λ a. absℤ (x *ℤ q -ℤ y *ℤ p) ≼ absℤ (x′ *ℤ q -ℤ a *ℤ p) +ℤ absℤ u *ℤ absℤ q +ℤ absℤ v *ℤ absℤ p) (step (c .cy) (d .cy) (S .y .centre)) h₁ in
-      true-lt (made-good (r *ℤ lengthOf S) (absℤ (x *ℤ q -ℤ y *ℤ p)) (absℤ (x′ *ℤ q -ℤ y′ *ℤ p)) (absℤ u) (absℤ v) (absℤ p) (absℤ q) (S .x .box) (S .y .box) (c .s) (d .s) h₂ (abs-nonneg p) (abs-nonneg q) (part .alongX) (part .alongY) (lt-true e))
+      ap₂ _&&_ (k .0) (true-le (made-good (r *ℤ lengthOf S) (absℤ (x *ℤ q -ℤ y *ℤ p)) (absℤ (x′ *ℤ q -ℤ y′ *ℤ p)) (absℤ u) (absℤ v) (absℤ p) (absℤ q) (S .x .box) (S .y .box) (c .s) (d .s) h₂ (abs-nonneg p) (abs-nonneg q) (part .alongX) (part .alongY) (le-true (k .1))))
 
 -- ---- the four quarters of a cell of half side 2h: the centre goes by h either way
 offset : (h u : ℤ) → pos 0 ≼ h → negℤ h ≼ u → u ≼ h → absℤ u +ℤ h ≼ pos 2 *ℤ h

@@ -6,7 +6,7 @@ use lib.Signed.{clashℤ}
 use Rattle.integers.specs.RingSolver.{name₂, reify}
 use Rattle.integers.specs.Order.{_≼_, _≺_, num, num⁺, _⊞_, _⊠_}
 use Rattle.integers.specs.Omega.{zarith}
-use Rattle.integers.specs.Inequalities.{from, weak, _⊠⁺_, ≼-*l-off}
+use Rattle.integers.specs.Inequalities.{from, _⊠⁺_, ≼-*l-off}
 use Rattle.integers.specs.Within.{Within, bound-nonneg}
 use Rattle.model.specs.Fractions.{Point}
 use Rattle.model.specs.Strips.{Strip}
@@ -14,7 +14,7 @@ use Rattle.model.specs.Explore.{Cell, inside, away, isInside, isAway₁, isAway
 use Rattle.enclosure.specs.Covers.{In}
 use Rattle.verdicts.specs.AnswerCases.{clash, tests-inside, tests-away}
 use Rattle.verdicts.specs.Apart.{InCell}
-use Rattle.verdicts.specs.Tests.{AllCloser, AllFarther, AllAtLeast, AllAtMost, reach-sound, away-means}
+use Rattle.verdicts.specs.Tests.{AllCloser, AllClear, AllAtLeast, AllAtMost, reach-sound, away-means}
 use Rattle.verdicts.specs.Trees.{Sound}
 use Rattle.inheritance.specs.Parts.{PartOf, inside-part, away₁-part, away₂-part}
 use Rattle.inheritance.specs.Trees.{Judges}
@@ -29,7 +29,7 @@ boxX {S} {P} i = off (P .x .low *ℤ i .e .low) (S .x .box) (P .x .up ⊠⁺ i .
 boxY : {S : Strip} {P : Point} → In S P → pos 0 ≼ S .y .box
 boxY {S} {P} i = off (P .y .low *ℤ i .e .low) (S .y .box) (P .y .up ⊠⁺ i .e .up) (bound-nonneg _ _ (i .besideY))
 
--- ---- a cell has a point, so nothing is both nearer and farther
+-- ---- a cell has a point, so nothing is both nearer than the reach and not nearer
 abbrev centre : Cell → Point
 centre c = record { x = record { top = c .cx; low = pos 16; up = num⁺ 15 }; y = record { top = c .cy; low = pos 16; up = num⁺ 15 } }
 
@@ -39,10 +39,10 @@ middle m s h = record {
   high = from h (name₂ m s λ σ p q. simp (p, q, reify, σ) (omega zarith));
 }
 
-meet : (r : ℤ) (d : Cell) → pos 0 ≼ d .s → (P : Point) → AllCloser r d P → AllFarther r d P → ⊥
+meet : (r : ℤ) (d : Cell) → pos 0 ≼ d .s → (P : Point) → AllCloser r d P → AllClear r d P → ⊥
 meet r d hs P f g =
     let j : InCell d (centre d) = record { inX = middle (d .cx) (d .s) hs; inY = middle (d .cy) (d .s) hs } in
-    clashℤ (f (centre d) j .closer) (weak (g (centre d) j .farther))
+    clashℤ (f (centre d) j .closer) (g (centre d) j .least)
 
 -- ---- answers, by cases
 or-is : (a b a′ b′ : Bool) → (a ≡ true → a′ ≡ true) → (b ≡ true → b′ ≡ true) → (a || b) ≡ true → (a′ || b′) ≡ true
@@ -62,7 +62,7 @@ judged-away false false f e = clash (cc)
 -- ---- the reach r
 module _ (r : ℤ) (hr : pos 0 ≼ r) where
   -- what an answer for d means
-  sound : (d : Cell) → pos 0 ≼ d .s → Sound (pos 0) (judged r d) (AllCloser r d) (AllFarther r d) (AllAtLeast r (pos 0) d) (AllAtMost r (pos 0) d)
+  sound : (d : Cell) → pos 0 ≼ d .s → Sound (pos 0) (judged r d) (AllCloser r d) (AllClear r d) (AllAtLeast r (pos 0) d) (AllAtMost r (pos 0) d)
   sound d hs = reach-sound r (pos 0) d hr (num 2 ⊠ hs ⊞ num 32 ⊠ num 0)
 
   exclude : (d : Cell) → pos 0 ≼ d .s → (S T : Strip) (P : Point) → In S P → In T P → judged r d S ≡ inside → judged r d T ≡ away → ⊥

@@ -32,6 +32,10 @@ pub both : (a b : Bool) → (a && b) ≡ true → (a ≡ true) × (b ≡ true)
 both true b e = (refl, e)
 both false b e = (e, cc)
 
+pub not-both : (a b : Bool) → not (a && b) ≡ true → (a ≡ false) ⊎ (b ≡ false)
+not-both true b e = inr (negated b e)
+not-both false b e = inl refl
+
 pub or-true : (a b : Bool) → (a || b) ≡ true → (a ≡ true) ⊎ (b ≡ true)
 or-true true b e = inl refl
 or-true false b e = inr e
@@ -61,6 +65,16 @@ lt-false e = ltZ-no (subst (λ b. T (not b)) (sym e) tt)
 
 pub le-true : {a b : ℤ} → leZ a b ≡ true → a ≼ b
 le-true e = leZ-yes (subst T (sym e) tt)
+
+pub le-false : {a b : ℤ} → leZ a b ≡ false → b ≺ a
+le-false {a} {b} e = go (ltZ b a) refl
+  where
+    go : (t : Bool) → ltZ b a ≡ t → b ≺ a
+    go true f = lt-true f
+    go false f = let h : a ≼ b = lt-false f in absurd (subst T e (h .le))
+
+pub true-le : {a b : ℤ} → a ≼ b → leZ a b ≡ true
+true-le {a} {b} h = is-true (leZ a b) (h .le)
 
 pub true-lt : {a b : ℤ} → a ≺ b → ltZ a b ≡ true
 true-lt {a} {b} h = is-true (ltZ a b) (h .lt)

@@ -8,7 +8,7 @@ use lib.IntN.{ℤ, pos, _+ℤ_, _-ℤ_, _*ℤ_}
 use Rattle.basics.specs.Orders.{num⁺, _⊠⁺_}
 use Rattle.basics.specs.Numbers.{_^ℤ_}
 use Rattle.model.specs.Jobs.{Component, cubic, line, Edge}
-use Rattle.model.specs.Fractions.{Frac, _≤ᶠ_, _<ᶠ_, whole, Point, Closer, Farther, AtMost, AtLeast}
+use Rattle.model.specs.Fractions.{Frac, _≤ᶠ_, _<ᶠ_, whole, Point, Closer, AtMost, AtLeast}
 use Rattle.model.specs.Plates.{Verdict, clear, within, doubtful, mixed}
 
 abbrev pub Points : Type 1
@@ -50,9 +50,9 @@ pub record CellPoint (M : ℕ) (X Y : ℤ) (i j : ℕ) (Q : Point) : Type 0 wher
   pub row : Along Y j (2 ^ M) (Q .y)
 
 -- ---- the exact verdict on any cell C with any outline O
--- clear: every point of the cell is farther than the reach from every point of the outline
+-- clear: every point of the cell is at least the reach away from every point of the outline
 unfoldable pub Clear : Points → Points → ℤ → Type 0
-Clear O C R = (Q : Point) → C Q → (P : Point) → O P → Farther P Q (whole R)
+Clear O C R = (Q : Point) → C Q → (P : Point) → O P → AtLeast P Q (whole R)
 
 -- inside: every point of the cell has a point of the outline closer than the reach
 unfoldable pub Inside : Points → Points → ℤ → Type 0

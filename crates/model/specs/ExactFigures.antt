@@ -7,22 +7,25 @@ use mathlib.Core.List.{List, [], _∷_}
 use Prim.Native.Nat.{ℕ}
 use lib.Dec.{T, eqb, eqb-refl, T-not}
 use lib.IntN.{ℤ, pos, negsuc}
-use Rattle.model.specs.Fractions.{Frac, _<ᶠ_, whole, Point, Closer, Farther, AtMost, AtLeast}
+use Rattle.model.specs.Fractions.{Frac, _<ᶠ_, whole, Point, Closer, AtMost, AtLeast}
 use Rattle.model.specs.Plates.{Verdict, clear, within, doubtful, mixed, letter}
 use Rattle.model.specs.Exact.{Points, Clear, Inside, Exact, R-E, R+E, NoCloser, SomeNear, Demand3}
 use Rattle.model.specs.FigureTables.{AllHold, _and_}
 use Rattle.model.specs.PointFigures.{over, spot, Is}
 
--- one point and no other
+-- one point and no other; one of two
 abbrev pub only : Point → Points
 only p P = P ≡ p
+
+abbrev pub pair : Point → Point → Points
+pair p q P = (P ≡ p) ⊎ (P ≡ q)
 
 pub data Figure : Type 0 where
   -- the band's ends at reach R, grain T and cells of side 2^M, in halves
   band : ℤ → ℤ → ℕ → ℤ → ℤ → Figure
-  -- whether the verdict is exact, where the outline is the first point, the cell the second and R the reach
-  exact : Point → Point → ℤ → Verdict → Bool → Figure
-  -- whether the cell is no closer than l, and whether it has a point at l
+  -- whether the verdict is exact, where the outline is the first point, the cell the two others and R the reach
+  exact : Point → Point → Point → ℤ → Verdict → Bool → Figure
+  -- whether the cell, one point here, is no closer than l, and whether it has a point at l
   no-closer : Point → Point → Frac → Bool → Figure
   some-near : Point → Point → Frac → Bool → Figure
   -- whether a map may have the verdict x there, at grain T and cells of side 2^M
@@ -30,10 +33,10 @@ pub data Figure : Type 0 where
 
 abbrev pub Holds : Figure → Type 0
 Holds (band R T M a b) = (R-E R T M .top ≡ a) × (R-E R T M .low ≡ pos 2) × (R+E R T M .top ≡ b) × (R+E R T M .low ≡ pos 2)
-Holds (exact p q R v t) = Is t (Exact (only p) (only q) R v)
-Holds (no-closer p q l t) = Is t (NoCloser (only p) (only q) l)
-Holds (some-near p q l t) = Is t (SomeNear (only p) (only q) l)
-Holds (allowed p q R T M x t) = Is t (Demand3 (only p) (only q) R T M x)
+Holds (exact p q q′ R v t) = Is t (Exact (only p) (pair q q′) R v)
+Holds (no-closer p q l t) = Is t (NoCloser (only p) (pair q q) l)
+Holds (some-near p q l t) = Is t (SomeNear (only p) (pair q q) l)
+Holds (allowed p q R T M x t) = Is t (Demand3 (only p) (pair q q) R T M x)
 
 -- ---- the doubtful band
 abbrev pub bandFigures : List Figure
@@ -47,7 +50,7 @@ bandFigures =
 pub band-holds : AllHold Holds bandFigures
 band-holds = (refl, refl, refl, refl) and (refl, refl, refl, refl) and tt
 
--- ---- verdicts: the outline is (0, 0), the cell (3, 4) or (6, 8)
+-- ---- verdicts: the outline is (0, 0), the cell (3, 4) or (6, 8) or both
 abbrev pub O : Point
 O = spot (pos 0) (pos 0)
 
@@ -59,16 +62,21 @@ ten = spot (pos 6) (pos 8)
 
 abbrev pub exactFigures : List Figure
 exactFigures =
-    exact O five (pos 4) clear true
-    ∷ exact O five (pos 4) within false
-    ∷ exact O five (pos 4) mixed false
-    ∷ exact O five (pos 5) clear false
-    ∷ exact O five (pos 5) within false
-    ∷ exact O five (pos 5) mixed true
-    ∷ exact O five (pos 5) doubtful false
-    ∷ exact O five (pos 6) clear false
-    ∷ exact O five (pos 6) within true
-    ∷ exact O five (pos 6) mixed false
+    -- a reach below the distance, at it and above it: at the reach exactly a cell is clear
+    exact O five five (pos 4) clear true
+    ∷ exact O five five (pos 4) within false
+    ∷ exact O five five (pos 4) mixed false
+    ∷ exact O five five (pos 5) clear true
+    ∷ exact O five five (pos 5) within false
+    ∷ exact O five five (pos 5) mixed false
+    ∷ exact O five five (pos 5) doubtful false
+    ∷ exact O five five (pos 6) clear false
+    ∷ exact O five five (pos 6) within true
+    ∷ exact O five five (pos 6) mixed false
+    -- a point on either side of the reach
+    ∷ exact O five ten (pos 6) clear false
+    ∷ exact O five ten (pos 6) within false
+    ∷ exact O five ten (pos 6) mixed true
     -- at 5 and on either side; a length below 0 asks nothing, and 0 asks what is so
     ∷ no-closer O five (whole (pos 5)) true
     ∷ no-closer O five (over (pos 11) 1) false
@@ -79,61 +87,69 @@ exactFigures =
     -- grain 1 and cells of side 1: E = 9/2
     ∷ allowed O five (pos 5) (pos 1) 0 doubtful true
     ∷ allowed O five (pos 5) (pos 1) 0 mixed false
-    ∷ allowed O five (pos 5) (pos 1) 0 clear false
+    ∷ allowed O five (pos 5) (pos 1) 0 clear true
     ∷ allowed O five (pos 5) (pos 1) 0 within false
+    ∷ allowed O five (pos 6) (pos 1) 0 clear false
     ∷ allowed O five (pos 10) (pos 1) 0 doubtful false
     ∷ allowed O ten (pos 5) (pos 1) 0 doubtful false
     ∷ []
 
 -- ---- the statement
--- of one point and one other: what the definitions ask of all points they ask of these
-clear-if : (p q : Point) (R : ℤ) → Farther p q (whole R) → Clear (only p) (only q) R
+-- of one point and two others: what the definitions ask of all points they ask of these
+each : (q q′ : Point) (B : Points) → B q → B q′ → (Q : Point) → pair q q′ Q → B Q
+each q q′ B h k Q (inl e) = subst B (sym e) h
+each q q′ B h k Q (inr e) = subst B (sym e) k
+
+clear-if : (p q q′ : Point) (R : ℤ) → AtLeast p q (whole R) → AtLeast p q′ (whole R) → Clear (only p) (pair q q′) R
 unfolding Clear
-clear-if p q R h Q e P f = subst (λ X. Farther X Q (whole R)) (sym f) (subst (λ X. Farther p X (whole R)) (sym e) h)
+clear-if p q q′ R h k Q e P f = subst (λ X. AtLeast X Q (whole R)) (sym f) (each q q′ (λ X. AtLeast p X (whole R)) h k Q e)
 
-clear-so : (p q : Point) (R : ℤ) → Clear (only p) (only q) R → Farther p q (whole R)
+clear-so : (p q q′ : Point) (R : ℤ) → Clear (only p) (pair q q′) R → AtLeast p q (whole R)
 unfolding Clear
-clear-so p q R h = h q refl p refl
+clear-so p q q′ R h = h q (inl refl) p refl
 
-inside-if : (p q : Point) (R : ℤ) → Closer p q (whole R) → Inside (only p) (only q) R
+inside-if : (p q q′ : Point) (R : ℤ) → Closer p q (whole R) → Closer p q′ (whole R) → Inside (only p) (pair q q′) R
 unfolding Inside
-inside-if p q R h Q e = (p, refl, subst (λ X. Closer p X (whole R)) (sym e) h)
+inside-if p q q′ R h k = each q q′ (λ Q. (P : Point) × only p P × Closer P Q (whole R)) (p, refl, h) (p, refl, k)
 
-inside-so : (p q : Point) (R : ℤ) → Inside (only p) (only q) R → Closer p q (whole R)
+inside-so : (p q q′ : Point) (R : ℤ) → Inside (only p) (pair q q′) R → Closer p q′ (whole R)
 unfolding Inside
-inside-so p q R h = let g = h q refl in subst (λ X. Closer X q (whole R)) (g .1) (g .2)
+inside-so p q q′ R h = let g = h q′ (inr refl) in subst (λ X. Closer X q′ (whole R)) (g .1) (g .2)
 
-far-if : (p q : Point) (l : Frac) → (l <ᶠ whole (pos 0)) ⊎ AtLeast p q l → NoCloser (only p) (only q) l
+far-if : (p q : Point) (l : Frac) → (l <ᶠ whole (pos 0)) ⊎ AtLeast p q l → NoCloser (only p) (pair q q) l
 unfolding NoCloser
-far-if p q l h Q e P f = subst (λ X. (l <ᶠ whole (pos 0)) ⊎ AtLeast X Q l) (sym f) (subst (λ X. (l <ᶠ whole (pos 0)) ⊎ AtLeast p X l) (sym e) h)
+far-if p q l h Q e P f = subst (λ X. (l <ᶠ whole (pos 0)) ⊎ AtLeast X Q l) (sym f) (each q q (λ X. (l <ᶠ whole (pos 0)) ⊎ AtLeast p X l) h h Q e)
 
-far-so : (p q : Point) (l : Frac) → NoCloser (only p) (only q) l → (l <ᶠ whole (pos 0)) ⊎ AtLeast p q l
+far-so : (p q : Point) (l : Frac) → NoCloser (only p) (pair q q) l → (l <ᶠ whole (pos 0)) ⊎ AtLeast p q l
 unfolding NoCloser
-far-so p q l h = h q refl p refl
+far-so p q l h = h q (inl refl) p refl
 
-near-if : (p q : Point) (l : Frac) → AtMost p q l → SomeNear (only p) (only q) l
+near-if : (p q : Point) (l : Frac) → AtMost p q l → SomeNear (only p) (pair q q) l
 unfolding SomeNear
-near-if p q l h Q e = (p, refl, subst (λ X. AtMost p X l) (sym e) h)
+near-if p q l h = each q q (λ Q. (P : Point) × only p P × AtMost P Q l) (p, refl, h) (p, refl, h)
 
-near-so : (p q : Point) (l : Frac) → SomeNear (only p) (only q) l → AtMost p q l
+near-so : (p q : Point) (l : Frac) → SomeNear (only p) (pair q q) l → AtMost p q l
 unfolding SomeNear
-near-so p q l h = let g = h q refl in subst (λ X. AtMost X q l) (g .1) (g .2)
+near-so p q l h = let g = h q (inl refl) in subst (λ X. AtMost X q l) (g .1) (g .2)
 
 unlike : (v w : Verdict) → T (not (eqb (letter v) (letter w))) → v ≡ w → ⊥
 unlike v w t e = T-not (eqb (letter v) (letter w)) t (subst (λ x. T (eqb (letter v) (letter x))) e (eqb-refl (letter v)))
 
 pub exact-holds : AllHold Holds exactFigures
 exact-holds =
-    clear-if O five (pos 4) (record { farther = record { lt = tt } })
-    and (λ h. inside-so O five (pos 4) h .closer .lt)
-    and (λ h. h .0 (clear-if O five (pos 4) (record { farther = record { lt = tt } })))
-    and (λ h. clear-so O five (pos 5) h .farther .lt)
-    and (λ h. inside-so O five (pos 5) h .closer .lt)
-    and ((λ h. clear-so O five (pos 5) h .farther .lt), (λ h. inside-so O five (pos 5) h .closer .lt))
+    clear-if O five five (pos 4) (record { least = record { le = tt } }) (record { least = record { le = tt } })
+    and (λ h. inside-so O five five (pos 4) h .closer .lt)
+    and (λ h. h .0 (clear-if O five five (pos 4) (record { least = record { le = tt } }) (record { least = record { le = tt } })))
+    and clear-if O five five (pos 5) (record { least = record { le = tt } }) (record { least = record { le = tt } })
+    and (λ h. inside-so O five five (pos 5) h .closer .lt)
+    and (λ h. h .0 (clear-if O five five (pos 5) (record { least = record { le = tt } }) (record { least = record { le = tt } })))
     and (λ h. h)
-    and (λ h. clear-so O five (pos 6) h .farther .lt)
-    and inside-if O five (pos 6) (record { closer = record { lt = tt } })
-    and (λ h. h .1 (inside-if O five (pos 6) (record { closer = record { lt = tt } })))
+    and (λ h. clear-so O five five (pos 6) h .least .le)
+    and inside-if O five five (pos 6) (record { closer = record { lt = tt } }) (record { closer = record { lt = tt } })
+    and (λ h. h .1 (inside-if O five five (pos 6) (record { closer = record { lt = tt } }) (record { closer = record { lt = tt } })))
+    and (λ h. clear-so O five ten (pos 6) h .least .le)
+    and (λ h. inside-so O five ten (pos 6) h .closer .lt)
+    and ((λ h. clear-so O five ten (pos 6) h .least .le), (λ h. inside-so O five ten (pos 6) h .closer .lt))
     and far-if O five (whole (pos 5)) (inr (record { least = record { le = tt } }))
     and (λ h. elim (far-so O five (over (pos 11) 1) h) [ inl b ↦ b .lt | inr b ↦ b .least .le ])
     and far-if O five (whole (negsuc 5)) (inl (record { lt = tt }))
@@ -142,19 +158,15 @@ exact-holds =
     and (λ h. near-so O five (over (pos 9) 1) h .most .le)
     and doubted
     and (λ h. h .not-mixed refl)
-    and (λ h. clear-so O five (pos 5) (h .if-clear refl) .farther .lt)
-    and (λ h. inside-so O five (pos 5) (h .if-inside refl) .closer .lt)
+    and cleared
+    and (λ h. inside-so O five five (pos 5) (h .if-inside refl) .closer .lt)
+    and (λ h. clear-so O five five (pos 6) (h .if-clear refl) .least .le)
     and (λ h. elim (far-so O five (R-E (pos 10) (pos 1) 0) (h .if-doubtful refl .0)) [ inl b ↦ b .lt | inr b ↦ b .least .le ])
     and (λ h. near-so O ten (R+E (pos 5) (pos 1) 0) (h .if-doubtful refl .1) .most .le)
     and tt
   where
-    agreed : (v : Verdict) → Exact (only O) (only five) (pos 5) v → (doubtful ≡ v) ↔ (doubtful ≡ doubtful → ⊥)
-    agreed clear h = absurd (clear-so O five (pos 5) h .farther .lt)
-    agreed within h = absurd (inside-so O five (pos 5) h .closer .lt)
-    agreed doubtful h = absurd h
-    agreed mixed h = ((λ e. absurd (unlike doubtful mixed tt e)), (λ f. absurd (f refl)))
-
-    doubted : Demand3 (only O) (only five) (pos 5) (pos 1) 0 doubtful
+    -- a doubtful cell is none of the exact verdicts
+    doubted : Demand3 (only O) (pair five five) (pos 5) (pos 1) 0 doubtful
     doubted = record {
       not-mixed = unlike doubtful mixed tt;
       if-clear = λ e. absurd (unlike doubtful clear tt e);
@@ -162,3 +174,25 @@ exact-holds =
       if-doubtful = λ e. (far-if O five (R-E (pos 5) (pos 1) 0) (inr (record { least = record { le = tt } })), near-if O five (R+E (pos 5) (pos 1) 0) (record { most = record { le = tt } }));
       agrees = agreed;
     }
+      where
+        agreed : (v : Verdict) → Exact (only O) (pair five five) (pos 5) v → (doubtful ≡ v) ↔ (doubtful ≡ doubtful → ⊥)
+        agreed clear h = ((λ e. absurd (unlike doubtful clear tt e)), (λ f. absurd (f refl)))
+        agreed within h = absurd (inside-so O five five (pos 5) h .closer .lt)
+        agreed doubtful h = absurd h
+        agreed mixed h = absurd (h .0 (clear-if O five five (pos 5) (record { least = record { le = tt } }) (record { least = record { le = tt } })))
+
+    -- a clear one is clear, and no other
+    cleared : Demand3 (only O) (pair five five) (pos 5) (pos 1) 0 clear
+    cleared = record {
+      not-mixed = unlike clear mixed tt;
+      if-clear = λ e. clear-if O five five (pos 5) (record { least = record { le = tt } }) (record { least = record { le = tt } });
+      if-inside = λ e. absurd (unlike clear within tt e);
+      if-doubtful = λ e. absurd (unlike clear doubtful tt e);
+      agrees = agreed;
+    }
+      where
+        agreed : (v : Verdict) → Exact (only O) (pair five five) (pos 5) v → (clear ≡ v) ↔ (clear ≡ doubtful → ⊥)
+        agreed clear h = ((λ e. unlike clear doubtful tt), (λ f. refl))
+        agreed within h = absurd (inside-so O five five (pos 5) h .closer .lt)
+        agreed doubtful h = absurd h
+        agreed mixed h = absurd (h .0 (clear-if O five five (pos 5) (record { least = record { le = tt } }) (record { least = record { le = tt } })))

@@ -1,9 +1,10 @@
 -- RULES, "Explore": what one strip says of a cell, and what a tree and several edges say. Assumes nothing.
-use mathlib.Core.Bool.{Bool, true, false, _||_}
+use mathlib.Core.Bool.{Bool, true, false, not, _&&_, _||_}
 use mathlib.Core.List.{List, [], _∷_}
 use lib.IntN.{ℤ, pos, negsuc, natAbs, _+ℤ_, _-ℤ_, _*ℤ_}
-use lib.Signed.{ltZ}
+use lib.Signed.{leZ, ltZ}
 use Rattle.basics.specs.Numbers.{absℤ}
+use Rattle.model.specs.Jobs.{isZero}
 use Rattle.model.specs.Strips.{Side, Strip}
 use Rattle.model.specs.Trees.{Tree, leaf, long, node}
 use Rattle.model.specs.Roots.{root}
@@ -42,15 +43,20 @@ closest² c S = squares (closest (c .cx) (c .s) (S .x)) (closest (c .cy) (c .s) 
 unfoldable pub isInside : ℤ → Cell → Strip → Bool
 isInside r c S = ltZ (farthest² c S) (r *ℤ r)
 
--- away by the upright boxes
+-- away by the upright boxes; what lies at the reach exactly is away
 unfoldable pub isAway₁ : ℤ → Cell → Strip → Bool
-isAway₁ r c S = ltZ (r *ℤ r) (closest² c S)
+isAway₁ r c S = leZ (r *ℤ r) (closest² c S)
 
 -- the axis' length, rounded up
 abbrev pub lengthOf : Strip → ℤ
 lengthOf S = pos (root (natAbs (squares (S .x .axis) (S .y .axis))))
 
--- away across the axis: the distance of the cell's centre from the axis' line, times the axis' length, less what the boxes can take off
+-- the axis is not (0, 0), so that it has a line
+abbrev pub hasAxis : Strip → Bool
+hasAxis S = not (isZero (S .x .axis) && isZero (S .y .axis))
+
+-- away across the axis: the distance of the cell's centre from the axis' line, times the axis' length, less what the boxes can take off.
+-- Of an axis (0, 0) both sides would be 0 and every cell away
 unfoldable pub isAway₂ : ℤ → Cell → Strip → Bool
 isAway₂ r c S =
     let wx : ℤ = c .cx -ℤ S .x .centre in
@@ -59,7 +65,7 @@ isAway₂ r c S =
     let q : ℤ = S .y .axis in
     let A : ℤ = S .x .box +ℤ c .s in
     let B : ℤ = S .y .box +ℤ c .s in
-    ltZ (r *ℤ lengthOf S) (absℤ (wx *ℤ q -ℤ wy *ℤ p) -ℤ A *ℤ absℤ q -ℤ B *ℤ absℤ p)
+    hasAxis S && leZ (r *ℤ lengthOf S) (absℤ (wx *ℤ q -ℤ wy *ℤ p) -ℤ A *ℤ absℤ q -ℤ B *ℤ absℤ p)
 
 -- ---- answers
 pub data Answer : Type 0 where

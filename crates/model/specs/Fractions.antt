@@ -41,9 +41,6 @@ dist² P Q = sqᶠ (P .x -ᶠ Q .x) +ᶠ sqᶠ (P .y -ᶠ Q .y)
 pub record Closer (P Q : Point) (l : Frac) : Type 0 where
   pub closer : dist² P Q <ᶠ sqᶠ l
 
-pub record Farther (P Q : Point) (l : Frac) : Type 0 where
-  pub farther : sqᶠ l <ᶠ dist² P Q
-
 pub record AtMost (P Q : Point) (l : Frac) : Type 0 where
   pub most : dist² P Q ≤ᶠ sqᶠ l
 

@@ -22,7 +22,7 @@ use Rattle.model.specs.Roots.{rootBy, root}
 use Rattle.model.specs.Explore.{Cell, Answer, inside, away, maybe, isInside, isAway₁, isAway₂, byTests, judged, join, explore, exploreAll}
 use Rattle.model.specs.Plates.{Verdict, clear, within, doubtful, mixed, letter, drawn, mapped, mapOf}
 use Rattle.model.specs.Distance.{leaves, leavesAll, leavesAt, least, lo, hi, Attains}
-use Rattle.model.specs.FigureTables.{AllHold, _and_, unequal, side, stripOf, job}
+use Rattle.model.specs.FigureTables.{AllHold, _and_, unequal, side, stripOf, mixedJob, job}
 
 pub data Figure : Type 0 where
   -- the three tests of a cell and a strip at reach r: inside, away by the boxes, away across the axis
@@ -110,6 +110,10 @@ level = job (pos 0) (pos 0) (pos 0) (pos 0) (pos 1) (pos 1) 2 (pos 0 ∷ pos 0 �
 abbrev pub slanted : Job
 slanted = job (pos 3) (pos 6) (pos 4) (pos 2) (pos 6) (pos 4) 1 (pos 11 ∷ pos 16 ∷ pos 6 ∷ pos 16 ∷ pos 12 ∷ pos 14 ∷ pos 13 ∷ pos 22 ∷ [])
 
+-- a line by 6 and 8, of one strip
+abbrev pub rising : Job
+rising = mixedJob (pos 2) (negsuc 2) (pos 3) (pos 1) (pos 7) (pos 8) 1 (pos 0 ∷ pos 0 ∷ pos 6 ∷ pos 8 ∷ []) (pos 1 ∷ [])
+
 -- a bowed edge of two leaves; a point edge at (10, 7), and after it the slanted one
 abbrev pub bowed : Job
 bowed = job (pos 0) (pos 0) (pos 0) (pos 0) (pos 1) (pos 4) 1 (pos 12 ∷ pos 9 ∷ pos 2 ∷ pos 0 ∷ pos 9 ∷ pos 10 ∷ pos 6 ∷ pos 7 ∷ [])
@@ -123,33 +127,41 @@ here = cell (pos 10) (negsuc 19) (pos 7)
 -- ---- exploring
 abbrev pub exploreFigures : List Figure
 exploreFigures =
-    -- 30 and 40 at the farthest, so 50 in all
+    -- 30 and 40 at the farthest, so 50 in all: at the reach exactly is not inside
     tests (pos 50) here (stripOf (side (pos 17) (negsuc 10) (pos 5)) (side (negsuc 10) (pos 14) (pos 10))) false false false
     ∷ tests (pos 51) here (stripOf (side (pos 17) (negsuc 10) (pos 5)) (side (negsuc 10) (pos 14) (pos 10))) true false false
-    -- 30 and 40 at the closest
-    ∷ tests (pos 50) here (stripOf (side (pos 63) (negsuc 10) (pos 5)) (side (negsuc 90) (pos 14) (pos 10))) false false false
+    -- 30 and 40 at the closest: at the reach exactly is away
+    ∷ tests (pos 51) here (stripOf (side (pos 63) (negsuc 10) (pos 5)) (side (negsuc 90) (pos 14) (pos 10))) false false false
+    ∷ tests (pos 50) here (stripOf (side (pos 63) (negsuc 10) (pos 5)) (side (negsuc 90) (pos 14) (pos 10))) false true false
     ∷ tests (pos 49) here (stripOf (side (pos 63) (negsuc 10) (pos 5)) (side (negsuc 90) (pos 14) (pos 10))) false true false
     -- where the boxes overlap in one coordinate, the other alone counts
-    ∷ tests (pos 40) here (stripOf (side (pos 10) (negsuc 10) (pos 5)) (side (negsuc 90) (pos 14) (pos 10))) false false false
-    ∷ tests (pos 39) here (stripOf (side (pos 10) (negsuc 10) (pos 5)) (side (negsuc 90) (pos 14) (pos 10))) false true false
-    ∷ tests (pos 30) here (stripOf (side (pos 63) (negsuc 10) (pos 5)) (side (negsuc 19) (pos 14) (pos 10))) false false false
-    ∷ tests (pos 29) here (stripOf (side (pos 63) (negsuc 10) (pos 5)) (side (negsuc 19) (pos 14) (pos 10))) false true false
-    -- an axis (3, 4) of length 5: at 10 · 5 and one above, on either side of the axis
-    ∷ tests (pos 10) here (stripOf (side (negsuc 9) (pos 3) (pos 2)) (side (negsuc 7) (pos 4) (pos 3))) false false false
+    ∷ tests (pos 41) here (stripOf (side (pos 10) (negsuc 10) (pos 5)) (side (negsuc 90) (pos 14) (pos 10))) false false false
+    ∷ tests (pos 40) here (stripOf (side (pos 10) (negsuc 10) (pos 5)) (side (negsuc 90) (pos 14) (pos 10))) false true false
+    ∷ tests (pos 31) here (stripOf (side (pos 63) (negsuc 10) (pos 5)) (side (negsuc 19) (pos 14) (pos 10))) false false false
+    ∷ tests (pos 30) here (stripOf (side (pos 63) (negsuc 10) (pos 5)) (side (negsuc 19) (pos 14) (pos 10))) false true false
+    -- an axis (3, 4) of length 5: one below 10 · 5, at it and one above, on either side of the axis
+    ∷ tests (pos 10) here (stripOf (side (negsuc 8) (pos 3) (pos 2)) (side (negsuc 6) (pos 4) (pos 3))) false false false
+    ∷ tests (pos 10) here (stripOf (side (negsuc 9) (pos 3) (pos 2)) (side (negsuc 7) (pos 4) (pos 3))) false false true
     ∷ tests (pos 10) here (stripOf (side (negsuc 10) (pos 3) (pos 2)) (side (negsuc 8) (pos 4) (pos 3))) false false true
-    ∷ tests (pos 10) here (stripOf (side (pos 30) (pos 3) (pos 2)) (side (negsuc 31) (pos 4) (pos 3))) false false false
+    ∷ tests (pos 10) here (stripOf (side (pos 29) (pos 3) (pos 2)) (side (negsuc 32) (pos 4) (pos 3))) false false false
+    ∷ tests (pos 10) here (stripOf (side (pos 30) (pos 3) (pos 2)) (side (negsuc 31) (pos 4) (pos 3))) false false true
     ∷ tests (pos 10) here (stripOf (side (pos 31) (pos 3) (pos 2)) (side (negsuc 30) (pos 4) (pos 3))) false false true
     -- an axis (−3, 5) of length 6, rounded up
-    ∷ tests (pos 10) here (stripOf (side (pos 28) (negsuc 2) (pos 2)) (side (negsuc 4) (pos 5) (pos 3))) false false false
-    ∷ tests (pos 10) here (stripOf (side (pos 27) (negsuc 2) (pos 2)) (side (negsuc 2) (pos 5) (pos 3))) false false true
+    ∷ tests (pos 10) here (stripOf (side (pos 29) (negsuc 2) (pos 2)) (side (negsuc 6) (pos 5) (pos 3))) false false false
+    ∷ tests (pos 10) here (stripOf (side (pos 28) (negsuc 2) (pos 2)) (side (negsuc 4) (pos 5) (pos 3))) false false true
     -- an axis (3, −5) and wide boxes
-    ∷ tests (pos 10) here (stripOf (side (negsuc 25) (pos 3) (pos 20)) (side (negsuc 61) (negsuc 4) (pos 30))) false false false
-    ∷ tests (pos 10) here (stripOf (side (negsuc 24) (pos 3) (pos 20)) (side (negsuc 63) (negsuc 4) (pos 30))) false false true
+    ∷ tests (pos 10) here (stripOf (side (negsuc 26) (pos 3) (pos 20)) (side (negsuc 59) (negsuc 4) (pos 30))) false false false
+    ∷ tests (pos 10) here (stripOf (side (negsuc 25) (pos 3) (pos 20)) (side (negsuc 61) (negsuc 4) (pos 30))) false false true
+    -- an axis (0, 0) has no line to be across: the boxes alone count. One axis number is enough for a line
+    ∷ tests (pos 10) here (stripOf (side (pos 31) (pos 0) (pos 5)) (side (negsuc 19) (pos 0) (pos 3))) false false false
+    ∷ tests (pos 10) here (stripOf (side (pos 32) (pos 0) (pos 5)) (side (negsuc 19) (pos 0) (pos 3))) false true false
+    ∷ tests (pos 10) here (stripOf (side (pos 32) (pos 0) (pos 5)) (side (negsuc 19) (pos 4) (pos 3))) false true true
+    ∷ tests (pos 10) here (stripOf (side (pos 10) (pos 4) (pos 5)) (side (pos 0) (pos 0) (pos 3))) false true true
     -- each test alone gives the answer
-    ∷ says (pos 50) here (stripOf (side (pos 63) (negsuc 10) (pos 5)) (side (negsuc 90) (pos 14) (pos 10))) maybe
+    ∷ says (pos 51) here (stripOf (side (pos 63) (negsuc 10) (pos 5)) (side (negsuc 90) (pos 14) (pos 10))) maybe
     ∷ says (pos 51) here (stripOf (side (pos 17) (negsuc 10) (pos 5)) (side (negsuc 10) (pos 14) (pos 10))) inside
-    ∷ says (pos 49) here (stripOf (side (pos 63) (negsuc 10) (pos 5)) (side (negsuc 90) (pos 14) (pos 10))) away
-    ∷ says (pos 10) here (stripOf (side (pos 27) (negsuc 2) (pos 2)) (side (negsuc 2) (pos 5) (pos 3))) away
+    ∷ says (pos 50) here (stripOf (side (pos 63) (negsuc 10) (pos 5)) (side (negsuc 90) (pos 14) (pos 10))) away
+    ∷ says (pos 10) here (stripOf (side (pos 28) (negsuc 2) (pos 2)) (side (negsuc 4) (pos 5) (pos 3))) away
     -- inside comes first
     ∷ answers true true inside
     ∷ answers true false inside
@@ -190,13 +202,15 @@ plateFigures =
     ∷ draws 1 2 (negsuc 2) (pos 5) 2 1 (cell (pos 48) (pos 112) (pos 32)) within
     ∷ draws 1 2 (negsuc 2) (pos 5) 2 1 (cell (pos 32) (pos 128) (pos 16)) within
     -- maps that no turn and no mirror leaves as they are
-    ∷ maps (job (negsuc 2) (pos 5) (pos 3) (pos 0) (pos 2) (pos 1) 1 (negsuc 1 ∷ pos 11 ∷ negsuc 1 ∷ pos 11 ∷ negsuc 1 ∷ pos 11 ∷ negsuc 1 ∷ pos 11 ∷ [])) "CCCCCCCCCCCCCCCCCCCCCCCCDDCCCCCCDDDCCCCCIIDDCCCCIIDDCCCCDDDCCCCC"
+    ∷ maps (job (negsuc 2) (pos 5) (pos 3) (pos 0) (pos 2) (pos 1) 1 (negsuc 1 ∷ pos 11 ∷ negsuc 1 ∷ pos 11 ∷ negsuc 1 ∷ pos 11 ∷ negsuc 1 ∷ pos 11 ∷ [])) "CCCCCCCCCCCCCCCCCCCCCCCCCCCCCCCCDDDCCCCCIIDCCCCCIIDCCCCCDDDCCCCC"
     ∷ maps two "IIDDDDDICCDICCDD"
     -- a plate of four columns ends with the fourth: what is past it is drawn as it is
     ∷ mapped-at two 3 0 doubtful
     ∷ mapped-at two 5 0 doubtful
     -- the last cell of the lowest row is clear across the axis alone; with a reach of nothing others would be
     ∷ maps slanted "DDDCDDDDDIDDDDDD"
+    -- and here it touches across the axis alone
+    ∷ maps rising "DDDCDDDDDDDDIDDD"
     ∷ ends (node (at (pos 3)) I A ∷ long (at (pos 4)) ∷ M ∷ []) (pos 0 ∷ pos 1 ∷ pos 4 ∷ pos 2 ∷ [])
     ∷ least-of [] (pos 0)
     ∷ least-of (pos 4 ∷ []) (pos 4)
@@ -233,9 +247,10 @@ apart a b t (inl e) = unequal a b t e
 apart a b t (inr h) = h
 
 pub exploring-holds : AllHold Holds exploreFigures
-unfolding isInside isAway₁ isAway₂ absℤ root rootBy explore exploreAll
+unfolding isInside isAway₁ isAway₂ isZero absℤ root rootBy explore exploreAll
 exploring-holds =
     (refl, refl, refl) and (refl, refl, refl) and (refl, refl, refl) and (refl, refl, refl) and (refl, refl, refl) and (refl, refl, refl) and (refl, refl, refl)
+    and (refl, refl, refl) and (refl, refl, refl) and (refl, refl, refl) and (refl, refl, refl) and (refl, refl, refl) and (refl, refl, refl) and (refl, refl, refl)
     and (refl, refl, refl) and (refl, refl, refl) and (refl, refl, refl) and (refl, refl, refl) and (refl, refl, refl) and (refl, refl, refl) and (refl, refl, refl)
     and (refl, refl, refl) and (refl, refl, refl)
     and refl and refl and refl and refl
@@ -247,7 +262,7 @@ exploring-holds =
 pub plates-hold : AllHold Holds plateFigures
 unfolding same mapOf mapped rowMajor table drawn exploreAll explore isInside isAway₁ isAway₂ absℤ root rootBy strip curved straight sideAt tree pieces forest outline edgesFrom isZero leaves leavesAll leavesAt least
 plates-hold =
-    refl and refl and refl and refl and refl and refl and refl and refl and refl and refl and refl and refl and refl and refl and refl and refl and refl and refl
+    refl and refl and refl and refl and refl and refl and refl and refl and refl and refl and refl and refl and refl and refl and refl and refl and refl and refl and refl
     and (refl, refl) and inl refl and apart (pos 14848) (pos 6400) tt and (refl, refl) and apart (pos 41472) (pos 1280) tt and inl refl and (λ h. h) and inl refl and inl refl
     and (refl, refl) and (refl, refl) and (refl, refl)
     and (refl, refl) and inr (inl refl)

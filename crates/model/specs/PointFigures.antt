@@ -11,7 +11,7 @@ use Rattle.integers.specs.Order.{_≼_, num⁺, _⊠_}
 use Rattle.integers.specs.Omega.{zarith}
 use Rattle.integers.specs.Inequalities.{≼-*}
 use Rattle.model.specs.Jobs.{Component, Edge}
-use Rattle.model.specs.Fractions.{Frac, _≤ᶠ_, _<ᶠ_, whole, _+ᶠ_, _-ᶠ_, sqᶠ, Point, dist², Closer, Farther, AtMost, AtLeast}
+use Rattle.model.specs.Fractions.{Frac, _≤ᶠ_, _<ᶠ_, whole, _+ᶠ_, _-ᶠ_, sqᶠ, Point, dist², Closer, AtMost, AtLeast}
 use Rattle.model.specs.Exact.{bernstein, coordinateAt, Curve, Outline, CellPoint}
 use Rattle.model.specs.FigureTables.{AllHold, _and_, cubic, line, edge}
 
@@ -36,8 +36,8 @@ pub data Figure : Type 0 where
   fraction : Frac → ℤ → ℤ → Figure
   less : Frac → Frac → Bool → Figure
   no-more : Frac → Frac → Bool → Figure
-  -- two points and a length: closer, at most, at least, farther
-  apart : Point → Point → Frac → Bool → Bool → Bool → Bool → Figure
+  -- two points and a length: closer, at most, at least
+  apart : Point → Point → Frac → Bool → Bool → Bool → Figure
   -- a point of the outline, and one that is not
   on : List Edge → Point → Figure
   off : List Edge → Point → Figure
@@ -48,7 +48,7 @@ abbrev pub Holds : Figure → Type 0
 Holds (fraction f n d) = (f .top ≡ n) × (f .low ≡ d)
 Holds (less a b t) = Is t (a <ᶠ b)
 Holds (no-more a b t) = Is t (a ≤ᶠ b)
-Holds (apart P Q l c m n f) = Is c (Closer P Q l) × Is m (AtMost P Q l) × Is n (AtLeast P Q l) × Is f (Farther P Q l)
+Holds (apart P Q l c m n) = Is c (Closer P Q l) × Is m (AtMost P Q l) × Is n (AtLeast P Q l)
 Holds (on es P) = Outline es P
 Holds (off es P) = Outline es P → ⊥
 Holds (in-cell M X Y i j Q t) = Is t (CellPoint M X Y i j Q)
@@ -83,9 +83,9 @@ pointFigures =
     ∷ less (over (pos 2) 2) (over (pos 5) 7) false
     ∷ no-more (over (pos 2) 2) (over (pos 5) 7) false
     -- a distance of 5 against 9/2, 5 and 11/2
-    ∷ apart (spot (pos 1) (negsuc 1)) (spot (pos 4) (pos 2)) (over (pos 9) 1) false false true true
-    ∷ apart (spot (pos 1) (negsuc 1)) (spot (pos 4) (pos 2)) (whole (pos 5)) false true true false
-    ∷ apart (spot (pos 1) (negsuc 1)) (spot (pos 4) (pos 2)) (over (pos 11) 1) true true false false
+    ∷ apart (spot (pos 1) (negsuc 1)) (spot (pos 4) (pos 2)) (over (pos 9) 1) false false true
+    ∷ apart (spot (pos 1) (negsuc 1)) (spot (pos 4) (pos 2)) (whole (pos 5)) false true true
+    ∷ apart (spot (pos 1) (negsuc 1)) (spot (pos 4) (pos 2)) (over (pos 11) 1) true true false
     -- an edge at 0, 2/5 and 1: the second of two, and its point at 2/5
     ∷ fraction (coordinateAt uneven (over (pos 2) 4)) (negsuc 13532) (pos 125)
     ∷ on (edge rising rising ∷ edge uneven rising ∷ []) (spot (pos 17) (pos 0))
@@ -157,9 +157,9 @@ pub points-hold : AllHold Holds pointFigures
 points-hold =
     (refl, refl) and (refl, refl) and (refl, refl) and (refl, refl) and (refl, refl)
     and (λ h. h .lt) and record { le = tt } and record { lt = tt } and record { le = tt } and (λ h. h .lt) and (λ h. h .le)
-    and ((λ h. h .closer .lt), (λ h. h .most .le), record { least = record { le = tt } }, record { farther = record { lt = tt } })
-    and ((λ h. h .closer .lt), record { most = record { le = tt } }, record { least = record { le = tt } }, (λ h. h .farther .lt))
-    and (record { closer = record { lt = tt } }, record { most = record { le = tt } }, (λ h. h .least .le), (λ h. h .farther .lt))
+    and ((λ h. h .closer .lt), (λ h. h .most .le), record { least = record { le = tt } })
+    and ((λ h. h .closer .lt), record { most = record { le = tt } }, record { least = record { le = tt } })
+    and (record { closer = record { lt = tt } }, record { most = record { le = tt } }, (λ h. h .least .le))
     and (refl, refl)
     and inr (inl (record { t = whole (pos 0); from0 = record { le = tt }; to1 = record { le = tt }; here = refl }))
     and inr (inl (record { t = over (pos 2) 4; from0 = record { le = tt }; to1 = record { le = tt }; here = refl }))

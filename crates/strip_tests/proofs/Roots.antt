@@ -1,28 +1,29 @@
--- A number is beyond r times a root where the square is at most that of a quotient. Assumes nothing.
-use mathlib.Core.Path.{_≡_, refl, sym, ap, _∙_, subst}
-use mathlib.Core.Bool.{Bool, true, false, cond}
+-- A number is at least r times a root where the square is at most that of a quotient. Assumes nothing.
+use mathlib.Core.Path.{_≡_, refl, sym, ap, subst}
+use mathlib.Core.Bool.{Bool, true, false, not, cond, _&&_}
 use Prim.Native.Nat.{ℕ, zero, suc, _+_, _*_, _/_, _≤_, _<_}
 use native.Mathlib.Nat.{le-trans, mul-le-mul, le-refl, div-add-mod', mod-lt}
 use native.Mathlib.Decide.{decLe}
 use native.Mathlib.Omega.{arith}
-use borrow.Author.Tests.{ltb-true, ltb-false, le-ltb}
-use lib.Dec.{ltb, leb, leb→le, le→leb, ltb→lt, lt→ltb}
-use lib.IntN.{ℤ, pos, negsuc, natAbs, _-ℤ_, _*ℤ_}
+use borrow.Author.Tests.{ltb-true, ltb-false, ne-eqb}
+use lib.Dec.{ltb, leb, leb→le, le→leb}
+use lib.IntN.{ℤ, pos, negsuc, natAbs, _*ℤ_}
 use lib.Signed.{ltZ, leZ, quotZ}
 use Rattle.integers.specs.Tests.{alike}
 use Rattle.strip_tests.specs.PlainTests.{capBy}
 use Rattle.verdicts.specs.AnswerCases.{clash}
+use Rattle.model.specs.Jobs.{isZero}
 use Rattle.model.specs.Roots.{root}
 use Rattle.verdicts.specs.Roots.{root-reaches, root-least}
 
 -- with j = n / d: d L ≤ n just where L ≤ j
-quotient-up : (n d l : ℕ) → 0 < d → d * l < suc n → l ≤ n / d
+quotient-up : (n d l : ℕ) → 0 < d → d * l ≤ n → l ≤ n / d
 quotient-up n d l h k = go (n / d) (omega (arith, div-add-mod' n d, mod-lt n h))
   where
     go : (j : ℕ) → d * l < d * j + d → l ≤ j
     go j m = elim (decLe l j) [ yes p ↦ p | no p ↦ absurd (let q : d * suc j ≤ d * l = mul-le-mul (le-refl d) (omega arith) in omega arith) ]
 
-quotient-down : (n d l : ℕ) → l ≤ n / d → d * l < suc n
+quotient-down : (n d l : ℕ) → l ≤ n / d → d * l ≤ n
 quotient-down n d l k = let m : d * l ≤ d * (n / d) = mul-le-mul (le-refl d) k in omega (arith, div-add-mod' n d)
 
 abbrev pub capped : ℕ → ℕ
@@ -42,10 +43,10 @@ capped-down j = go (ltb j 1073741824) refl
     go true e = le-refl j
     go false e = ltb-false j 1073741824 e
 
-pub beyond-law : (n d m : ℕ) → 0 < d → m ≤ 1152921504606846976 → leb m (capped (n / d) * capped (n / d)) ≡ ltb (d * root m) (suc n)
-beyond-law n d m hd hm = alike (leb m (k * k)) (ltb (d * root m) (suc n))
-    (λ t. lt→ltb (d * root m) (suc n) (quotient-down n d (root m) (le-trans (root-least m k (leb→le m (k * k) t)) (capped-down j))))
-    (λ t. le→leb m (k * k) (le-trans (root-reaches m) (square (capped-up (root m) j (root-least m 1073741824 hm) (quotient-up n d (root m) hd (ltb→lt (d * root m) (suc n) t))))))
+pub beyond-law : (n d m : ℕ) → 0 < d → m ≤ 1152921504606846976 → leb m (capped (n / d) * capped (n / d)) ≡ leb (d * root m) n
+beyond-law n d m hd hm = alike (leb m (k * k)) (leb (d * root m) n)
+    (λ t. le→leb (d * root m) n (quotient-down n d (root m) (le-trans (root-least m k (leb→le m (k * k) t)) (capped-down j))))
+    (λ t. le→leb m (k * k) (le-trans (root-reaches m) (square (capped-up (root m) j (root-least m 1073741824 hm) (quotient-up n d (root m) hd (leb→le (d * root m) n t))))))
   where
     j : ℕ
     j = n / d
@@ -57,11 +58,14 @@ beyond-law n d m hd hm = alike (leb m (k * k)) (ltb (d * root m) (suc n))
     square h = mul-le-mul h h
 
 -- a whole number up to the root fails the test at once
-pub short-law : (n d m low : ℕ) → low * low ≤ m → n ≤ d * low → ltb (d * root m) n ≡ false
-short-law n d m low h k = le-ltb (d * root m) n (le-trans k (mul-le-mul (le-refl d) (under low (root m) (le-trans h (root-reaches m)))))
+pub short-law : (n d m low : ℕ) → low * low ≤ m → n < d * low → leb (d * root m) n ≡ false
+short-law n d m low h k = alike (leb (d * root m) n) false (λ t. omega (arith, leb→le (d * root m) n t, l)) absurd
   where
     under : (a b : ℕ) → a * a ≤ b * b → a ≤ b
     under a b h = elim (decLe a b) [ yes p ↦ p | no p ↦ absurd (let q : suc b * suc b ≤ a * a = mul-le-mul (omega arith) (omega arith) in omega arith) ]
+
+    l : d * low ≤ d * root m
+    l = mul-le-mul (le-refl d) (under low (root m) (le-trans h (root-reaches m)))
 
 -- ---- over ℤ, as the code has them
 cap-pos : (j : ℕ) → capBy (pos j) ≡ pos (capped j)
@@ -78,25 +82,28 @@ capped-size j = go (ltb j 1073741824) refl
     go true e = omega (arith, ltb-true j 1073741824 e)
     go false e = omega arith
 
-quotient : (n d : ℕ) → capBy (quotZ (pos (suc n) -ℤ pos 1) (pos d)) ≡ pos (capped (n / d))
-quotient n d = ap (λ z. capBy (quotZ z (pos d))) (less n) ∙ cap-pos (n / d)
-  where
-    less : (n : ℕ) → pos (suc n) -ℤ pos 1 ≡ pos n
-    less n = rw (le-ltb (suc n) 1 (omega arith)) (ap pos (omega arith))
-
+-- what the quotient's square tells of x, once low has let it pass and m is not 0
 pub record Asked (x : ℤ) (d m : ℕ) : Type 0 where
-  pub size : natAbs (capBy (quotZ (x -ℤ pos 1) (pos d))) ≤ 1073741824
-  pub answer : leZ (pos m) (capBy (quotZ (x -ℤ pos 1) (pos d)) *ℤ capBy (quotZ (x -ℤ pos 1) (pos d))) ≡ ltZ (pos d *ℤ pos (root m)) x
+  pub size : natAbs (capBy (quotZ x (pos d))) ≤ 1073741824
+  pub answer : leZ (pos m) (capBy (quotZ x (pos d)) *ℤ capBy (quotZ x (pos d))) ≡ leZ (pos d *ℤ pos (root m)) x
 
-pub asked : (x : ℤ) (d m low : ℕ) → 0 < d → m ≤ 1152921504606846976 → ltZ (pos d *ℤ pos low) x ≡ true → Asked x d m
-asked (pos zero) d m low h k e = absurd (omega (arith, ltb-true (d * low) 0 e))
-asked (pos (suc n)) d m low h k e =
-    record {
-      size = subst (λ z. natAbs z ≤ 1073741824) (sym (quotient n d)) (capped-size (n / d));
-      answer = subst (λ z. leZ (pos m) (z *ℤ z) ≡ ltZ (pos d *ℤ pos (root m)) (pos (suc n))) (sym (quotient n d)) (beyond-law n d m h k);
-    }
+pub asked : (x : ℤ) (d m low : ℕ) → 0 < d → m ≤ 1152921504606846976 → ltZ x (pos d *ℤ pos low) ≡ false → Asked x d m
+asked (pos n) d m low h k e = record {
+  size = subst (λ z. natAbs z ≤ 1073741824) (sym (cap-pos (n / d))) (capped-size (n / d));
+  answer = subst (λ z. leZ (pos m) (z *ℤ z) ≡ leZ (pos d *ℤ pos (root m)) (pos n)) (sym (cap-pos (n / d))) (beyond-law n d m h k);
+}
 asked (negsuc n) d m low h k e = clash (cc)
 
-pub refused : (x : ℤ) (d m low : ℕ) → low * low ≤ m → ltZ (pos d *ℤ pos low) x ≡ false → false ≡ ltZ (pos d *ℤ pos (root m)) x
-refused (pos n) d m low h e = sym (short-law n d m low h (ltb-false (d * low) n e))
+pub refused : (x : ℤ) (d m low : ℕ) → low * low ≤ m → ltZ x (pos d *ℤ pos low) ≡ true → leZ (pos d *ℤ pos (root m)) x ≡ false
+refused (pos n) d m low h e = short-law n d m low h (ltb-true n (d * low) e)
 refused (negsuc n) d m low h e = refl
+
+-- below 1 is 0, and no other
+pub no-axis : (m : ℕ) → ltZ (pos m) (pos 1) ≡ true → isZero (pos m) ≡ true
+unfolding isZero
+no-axis zero e = refl
+no-axis (suc m) e = absurd (omega (arith, ltb-true (suc m) 1 e))
+
+pub some-axis : (m : ℕ) → ltZ (pos m) (pos 1) ≡ false → isZero (pos m) ≡ false
+unfolding isZero
+some-axis m e = ne-eqb m 0 (λ h. omega (arith, ltb-false m 1 e))

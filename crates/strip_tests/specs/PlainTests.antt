@@ -1,18 +1,23 @@
 -- The tests of one node over plain numbers, as the code takes them: w from the strip's centre to the cell's, the axis (p, q), the box halves with the cell's half side. Assumes nothing.
 use mathlib.Core.Path.{_≡_, refl, sym, _∙_, ap, ap₂, subst}
-use mathlib.Core.Bool.{Bool, true, false, not, cond, _||_}
+use mathlib.Core.Bool.{Bool, true, false, not, cond, _&&_, _||_}
+use mathlib.Core.Logic.{inl, inr}
 use Prim.Native.Nat.{ℕ}
+use borrow.Author.Tests.{eqb-true, ne-eqb}
 use lib.IntN.{ℤ, pos, negsuc, natAbs, _+ℤ_, _-ℤ_, _*ℤ_}
 use lib.Dec.{T}
-use lib.Signed.{ltZ, ltZ-yes, ltZ-no, clashℤ}
+use lib.Signed.{leZ, ltZ, ltZ-yes, ltZ-no, clashℤ, <ℤ-irrefl}
 use Rattle.integers.specs.Order.{_≼_, _≺_, num, gap}
 use Rattle.integers.specs.Omega.{zarith}
 use Rattle.integers.specs.Inequalities.{from, _&_}
 use Rattle.integers.specs.Absolute.{absℤ}
 use Rattle.integers.specs.RingSolver.{name₃, reify, close, ok}
+use Rattle.model.specs.Jobs.{isZero}
 use Rattle.model.specs.Strips.{Strip}
 use Rattle.model.specs.Roots.{root}
-use Rattle.model.specs.Explore.{Cell, squares, atLeast0, isInside, isAway₁, isAway₂, Answer, inside, away, maybe, byTests, judged}
+use Rattle.model.specs.Explore.{Cell, squares, atLeast0, isInside, isAway₁, isAway₂, lengthOf, Answer, inside, away, maybe, byTests, judged}
+use Rattle.verdicts.specs.AnswerCases.{clash}
+use Rattle.verdicts.specs.Tests.{squares-above}
 
 abbrev pub insideBy : ℤ → ℤ → ℤ → ℤ → ℤ → Bool
 insideBy ax ay ex ey r = ltZ (squares (ax +ℤ ex) (ay +ℤ ey)) (r *ℤ r)
@@ -27,10 +32,10 @@ abbrev pub capBy : ℤ → ℤ
 capBy k = cond (ltZ k (pos 1073741824)) k (pos 1073741824)
 
 abbrev pub apartBy : ℤ → ℤ → ℤ → ℤ → ℤ → Bool
-apartBy ax ay ex ey r = ltZ (r *ℤ r) (squares (excessBy ax ex) (excessBy ay ey))
+apartBy ax ay ex ey r = leZ (r *ℤ r) (squares (excessBy ax ex) (excessBy ay ey))
 
 abbrev pub isBeyond : ℤ → ℤ → ℤ → Bool
-isBeyond cross r pp = ltZ (r *ℤ pos (root (natAbs pp))) cross
+isBeyond cross r pp = not (isZero pp) && leZ (r *ℤ pos (root (natAbs pp))) cross
 
 abbrev pub slantedBy : ℤ → ℤ → ℤ → ℤ → ℤ → ℤ → ℤ → Bool
 slantedBy wx wy p q a b r = isBeyond (absℤ (wx *ℤ q -ℤ wy *ℤ p) -ℤ a *ℤ absℤ q -ℤ b *ℤ absℤ p) r (squares p q)
@@ -70,6 +75,24 @@ excess-is (negsuc n) a e h false k =
 excess-gap : (w p A : ℤ) → excessBy w (p +ℤ A) ≡ atLeast0 (w -ℤ p -ℤ A)
 excess-gap w p A = excess-is (w -ℤ (p +ℤ A)) w (p +ℤ A) refl (ltZ w (p +ℤ A)) refl ∙ ap atLeast0 (less w p A)
 
+-- both axis numbers are 0 just where the sum of their squares is
+squares-zero : (p q : ℤ) → isZero (squares p q) ≡ (isZero p && isZero q)
+unfolding isZero
+squares-zero p q = go (isZero p) (isZero q) refl refl
+  where
+    above : (n : ℤ) → pos 0 ≺ n → isZero n ≡ false
+    above (pos n) h = ne-eqb n 0 (λ e. <ℤ-irrefl (subst (λ m. pos 0 ≺ pos m) e h))
+    above (negsuc n) h = refl
+
+    zero-is : (z : ℤ) → isZero z ≡ true → z ≡ pos 0
+    zero-is (pos n) e = ap pos (eqb-true n 0 e)
+    zero-is (negsuc n) e = clash (cc)
+
+    go : (a b : Bool) → isZero p ≡ a → isZero q ≡ b → isZero (squares p q) ≡ (a && b)
+    go true true e f = rw (zero-is p e, zero-is q f)
+    go true false e f = above (squares p q) (squares-above p q (inr f))
+    go false b e f = above (squares p q) (squares-above p q (inl e))
+
 -- what the code asks of a node and a cell is the model's answer
 pub judge-is : (r : ℤ) (c : Cell) (S : Strip) → judgeBy (c .cx -ℤ S .x .centre) (c .cy -ℤ S .y .centre) (S .x .axis) (S .y .axis) (S .x .box +ℤ c .s) (S .y .box +ℤ c .s) r ≡ judged r c S
 unfolding isInside isAway₁ isAway₂
@@ -80,5 +103,7 @@ judge-is r c S =
     let q : ℤ = absℤ (S .y .axis) in
     let A : ℤ = S .x .box +ℤ c .s in
     let B : ℤ = S .y .box +ℤ c .s in
+    let cross : ℤ = absℤ ((c .cx -ℤ S .x .centre) *ℤ S .y .axis -ℤ (c .cy -ℤ S .y .centre) *ℤ S .x .axis) -ℤ A *ℤ q -ℤ B *ℤ p in
     ap₂ byTests (ap₂ (λ a b. ltZ (squares a b) (r *ℤ r)) (sum x p A) (sum y q B))
-    (ap (λ t. t || slantedBy (c .cx -ℤ S .x .centre) (c .cy -ℤ S .y .centre) (S .x .axis) (S .y .axis) A B r) (ap₂ (λ a b. ltZ (r *ℤ r) (squares a b)) (excess-gap x p A) (excess-gap y q B)))
+    (ap₂ _||_ (ap₂ (λ a b. leZ (r *ℤ r) (squares a b)) (excess-gap x p A) (excess-gap y q B))
+    (ap (λ t. not t && leZ (r *ℤ lengthOf S) cross) (squares-zero (S .x .axis) (S .y .axis))))

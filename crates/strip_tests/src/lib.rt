@@ -48,21 +48,23 @@ fn apart(ax: i64, ay: i64, ex: i64, ey: i64, r: i64) -> bool
     let gy = excess(ay, ey);
     let near = gx * gx + gy * gy;
     let reach = r * r;
-    reach < near
+    reach <= near
 }
 
-// cross > r * L, with L the root of pp rounded up: just where pp is at most the square of (cross - 1) / r. low is a whole number up to
-// L: most calls end at it, without a division
+// cross >= r * L, with L the root of pp rounded up: just where pp is at most the square of cross / r. low is a whole number up to L: most
+// calls end at it, without a division. Of an axis (0, 0), and of no other, pp is 0, and no cell is across it
 fn beyond(cross: i64, r: i64, low: i64, pp: i64) -> bool
     requires sizes { ⌜ CrossSized cross r low pp ⌝ }
     ensures told { λ b. ⌜ b ≡ isBeyond cross r pp ⌝ }
 {
-    if r * low < cross {
-        let k = cap((cross - 1) / r);
-        pp <= k * k
-    } else {
-        false
+    if cross < r * low {
+        return false;
     }
+    if pp < 1 {
+        return false;
+    }
+    let k = cap(cross / r);
+    pp <= k * k
 }
 
 fn slanted(wx: i64, wy: i64, p: i64, q: i64, a: i64, b: i64, r: i64) -> bool

@@ -64,8 +64,8 @@ least-squared x y D K H hD hK hH h k =
 pub below : (t f d r : ℤ) → pos 0 ≺ d → t *ℤ pos 256 ≼ f *ℤ d → f ≺ r *ℤ r → t *ℤ pos 256 ≺ r *ℤ r *ℤ d
 below t f d r hd h l = from (h & gap⁺ l ⊠⁺ hd) (name₄ t f d r λ σ p₁ p₂ p₃ p₄. simp (p₁, p₂, p₃, p₄, reify, σ) (omega zarith))
 
-pub above : (t f d r : ℤ) → pos 0 ≺ d → f *ℤ d ≼ t *ℤ pos 256 → r *ℤ r ≺ f → r *ℤ r *ℤ d ≺ t *ℤ pos 256
-above t f d r hd h l = from (h & gap⁺ l ⊠⁺ hd) (name₄ t f d r λ σ p₁ p₂ p₃ p₄. simp (p₁, p₂, p₃, p₄, reify, σ) (omega zarith))
+pub above : (t f d r : ℤ) → pos 0 ≺ d → f *ℤ d ≼ t *ℤ pos 256 → r *ℤ r ≼ f → r *ℤ r *ℤ d ≼ t *ℤ pos 256
+above t f d r hd h l = from (h & gap l ⊠ weak hd) (name₄ t f d r λ σ p₁ p₂ p₃ p₄. simp (p₁, p₂, p₃, p₄, reify, σ) (omega zarith))
 
 -- Away, second test. The e of the strip goes out of the cross product with the axis
 cross : (x y D F E v w p q A B : ℤ) → (pos 16 *ℤ x *ℤ F +ℤ (v *ℤ F -ℤ p *ℤ E) *ℤ D) *ℤ q -ℤ (pos 16 *ℤ y *ℤ F +ℤ (w *ℤ F -ℤ q *ℤ E) *ℤ D) *ℤ p ≡ F *ℤ (pos 16 *ℤ (x *ℤ q -ℤ y *ℤ p) +ℤ (v *ℤ q -ℤ w *ℤ p) *ℤ D)
@@ -97,10 +97,10 @@ cross-least c k G D h = ⊎-elim
     down : (a : ℤ) → c ≼ a → (negℤ k -ℤ G) *ℤ D ≼ pos 16 *ℤ a
     down a l = from (h .low & l) (name₅ c k G D a λ σ p q r s t. simp (p, q, r, s, t, reify, σ) (omega zarith))
 
--- with k > r L, where L² ≥ p² + q²: first (r L D)² < (16 c)², c the cross product
-beyond : (a k m D : ℤ) → pos 0 ≺ D → pos 0 ≼ m → m ≺ k → k *ℤ D ≼ pos 16 *ℤ a → m ^ℤ 2 *ℤ D ^ℤ 2 ≺ a *ℤ a *ℤ pos 256
+-- with k ≥ r L, where L² ≥ p² + q²: first (r L D)² ≤ (16 c)², c the cross product
+beyond : (a k m D : ℤ) → pos 0 ≺ D → pos 0 ≼ m → m ≼ k → k *ℤ D ≼ pos 16 *ℤ a → m ^ℤ 2 *ℤ D ^ℤ 2 ≼ a *ℤ a *ℤ pos 256
 beyond a k m D hD hm l h =
-    from (gap h ⊠ gap h & gap h ⊠ (weak hD ⊠ (hm ⊞ gap (weak l))) & (hD ⊠⁺ hD) ⊠⁺ (gap⁺ l ⊠⁺ gap⁺ l) & (weak hD ⊠ weak hD) ⊠ (hm ⊠ gap (weak l)))
+    from (gap h ⊠ gap h & gap h ⊠ (weak hD ⊠ (hm ⊞ gap l)) & (weak hD ⊠ weak hD) ⊠ (gap l ⊠ gap l) & (weak hD ⊠ weak hD) ⊠ (hm ⊠ gap l))
     (name₄ a k m D λ σ p q r s. simp (p, q, r, s, reify, σ) (omega zarith))
 
 -- then Lagrange's identity
@@ -108,31 +108,28 @@ lagrange : (x y p q L : ℤ) → p *ℤ p +ℤ q *ℤ q ≼ L *ℤ L → (x *ℤ
 lagrange x y p q L h =
     from (sq (x *ℤ p +ℤ y *ℤ q) & gap h ⊠ (sq x ⊞ sq y)) (name₅ x y p q L λ σ p₁ p₂ p₃ p₄ p₅. simp (p₁, p₂, p₃, p₄, p₅, reify, σ) (omega zarith))
 
--- a square that is a factor of something positive is positive
-drop-square : (L a b : ℤ) → L ^ℤ 2 *ℤ a ≺ L ^ℤ 2 *ℤ b → a ≺ b
-drop-square L a b h = ⊎-elim
-    (λ (l : b ≼ a). clashℤ h (more L a b l))
-    (λ (l : a ≺ b). l)
-    (split≼ b a)
+-- a square that is a factor goes, where it is not 0
+drop-square : (L a b : ℤ) → pos 0 ≺ L → L ^ℤ 2 *ℤ a ≼ L ^ℤ 2 *ℤ b → a ≼ b
+drop-square L a b hL h = ≼-*l-off (hL ⊠⁺ hL) (same L a b h)
   where
-    more : (L a b : ℤ) → b ≼ a → L ^ℤ 2 *ℤ b ≼ L ^ℤ 2 *ℤ a
-    more L a b l = from (sq L ⊠ gap l) (name₃ L a b λ σ p q r. simp (p, q, r, reify, σ) (omega zarith))
+    same : (L a b : ℤ) → L ^ℤ 2 *ℤ a ≼ L ^ℤ 2 *ℤ b → L *ℤ L *ℤ a ≼ L *ℤ L *ℤ b
+    same L a b = name₃ L a b λ σ p q r. simp (p, q, r, reify, σ) (omega zarith)
 
-pub across-far : (x y D F E v w p q A B r L : ℤ) → pos 0 ≺ D → pos 0 ≺ F → pos 0 ≼ r → pos 0 ≼ L → p *ℤ p +ℤ q *ℤ q ≼ L *ℤ L → Spread x D F E v p A → Spread y D F E w q B → r *ℤ L ≺ absℤ (v *ℤ q -ℤ w *ℤ p) -ℤ A *ℤ absℤ q -ℤ B *ℤ absℤ p → r ^ℤ 2 *ℤ D ^ℤ 2 ≺ x ^ℤ 2 *ℤ pos 16 ^ℤ 2 +ℤ y ^ℤ 2 *ℤ pos 16 ^ℤ 2
+pub across-far : (x y D F E v w p q A B r L : ℤ) → pos 0 ≺ D → pos 0 ≺ F → pos 0 ≼ r → pos 0 ≺ L → p *ℤ p +ℤ q *ℤ q ≼ L *ℤ L → Spread x D F E v p A → Spread y D F E w q B → r *ℤ L ≼ absℤ (v *ℤ q -ℤ w *ℤ p) -ℤ A *ℤ absℤ q -ℤ B *ℤ absℤ p → r ^ℤ 2 *ℤ D ^ℤ 2 ≼ x ^ℤ 2 *ℤ pos 16 ^ℤ 2 +ℤ y ^ℤ 2 *ℤ pos 16 ^ℤ 2
 across-far x y D F E v w p q A B r L hD hF hr hL hs h k l =
     let G : ℤ = A *ℤ absℤ q +ℤ B *ℤ absℤ p in
     let c : ℤ = x *ℤ q -ℤ y *ℤ p in
     let K : ℤ = v *ℤ q -ℤ w *ℤ p in
-    let far : r *ℤ L ≺ absℤ K -ℤ G = regroup (r *ℤ L) (absℤ K) (A *ℤ absℤ q) (B *ℤ absℤ p) l in
-    let b : (r *ℤ L) ^ℤ 2 *ℤ D ^ℤ 2 ≺ absℤ c *ℤ absℤ c *ℤ pos 256 = beyond (absℤ c) (absℤ K -ℤ G) (r *ℤ L) D hD (hr ⊠ hL) far (cross-least c K G D (cross-bound x y D F E v w p q A B hD hF h k)) in
-    let b′ : (r *ℤ L) ^ℤ 2 *ℤ D ^ℤ 2 ≺ c *ℤ c *ℤ pos 256 = rw (abs-sq c) at b in
-    drop-square L (r ^ℤ 2 *ℤ D ^ℤ 2) (x ^ℤ 2 *ℤ pos 16 ^ℤ 2 +ℤ y ^ℤ 2 *ℤ pos 16 ^ℤ 2)
+    let far : r *ℤ L ≼ absℤ K -ℤ G = regroup (r *ℤ L) (absℤ K) (A *ℤ absℤ q) (B *ℤ absℤ p) l in
+    let b : (r *ℤ L) ^ℤ 2 *ℤ D ^ℤ 2 ≼ absℤ c *ℤ absℤ c *ℤ pos 256 = beyond (absℤ c) (absℤ K -ℤ G) (r *ℤ L) D hD (hr ⊠ weak hL) far (cross-least c K G D (cross-bound x y D F E v w p q A B hD hF h k)) in
+    let b′ : (r *ℤ L) ^ℤ 2 *ℤ D ^ℤ 2 ≼ c *ℤ c *ℤ pos 256 = rw (abs-sq c) at b in
+    drop-square L (r ^ℤ 2 *ℤ D ^ℤ 2) (x ^ℤ 2 *ℤ pos 16 ^ℤ 2 +ℤ y ^ℤ 2 *ℤ pos 16 ^ℤ 2) hL
     (join r L D (c *ℤ c *ℤ pos 256) (L ^ℤ 2 *ℤ (x ^ℤ 2 *ℤ pos 256 +ℤ y ^ℤ 2 *ℤ pos 256)) b′ (lagrange x y p q L hs))
   where
-    regroup : (m a b c : ℤ) → m ≺ a -ℤ b -ℤ c → m ≺ a -ℤ (b +ℤ c)
+    regroup : (m a b c : ℤ) → m ≼ a -ℤ b -ℤ c → m ≼ a -ℤ (b +ℤ c)
     regroup m a b c = name₄ m a b c λ σ p q r s. simp (p, q, r, s, reify, σ) (omega zarith)
 
-    join : (r L D c d : ℤ) → (r *ℤ L) ^ℤ 2 *ℤ D ^ℤ 2 ≺ c → c ≼ d → L ^ℤ 2 *ℤ (r ^ℤ 2 *ℤ D ^ℤ 2) ≺ d
+    join : (r L D c d : ℤ) → (r *ℤ L) ^ℤ 2 *ℤ D ^ℤ 2 ≼ c → c ≼ d → L ^ℤ 2 *ℤ (r ^ℤ 2 *ℤ D ^ℤ 2) ≼ d
     join r L D c d = name₅ r L D c d λ σ p₁ p₂ p₃ p₄ p₅. simp (p₁, p₂, p₃, p₄, p₅, reify, σ) (omega zarith)
 
 -- ---- the band. A ball of radius g, grown by u in both coordinates, lies in one of radius g + 3u/2: a + b ≤ 3g/2, since (2(a + b))² ≤ 8(a² + b²) ≤ 8g²

@@ -1,22 +1,25 @@
 -- What the three tests mean for a point in the strip and a point in the cell: passed, and failed. Assumes nothing.
 use mathlib.Core.Path.{_≡_, refl, sym, subst}
 use mathlib.Core.Bool.{true, false, _||_}
+use Prim.Native.Nat.{ℕ, zero, suc}
 use mathlib.Core.Logic.{_⊎_, inl, inr, ⊎-elim}
 use lib.IntN.{ℤ, pos, negsuc, natAbs, _+ℤ_, _-ℤ_, _*ℤ_, zero-*ℤ}
-use lib.Signed.{leZ-yes, pos-natAbs, yes-nonNeg}
+use lib.Signed.{leZ, leZ-yes, pos-natAbs, yes-nonNeg}
 use Rattle.integers.specs.RingSolver.{_^ℤ_, name₂, name₄, reify}
 use Rattle.integers.specs.Order.{_≼_, _≺_, num, num⁺, _⊞_, _⊠_, gap, sq, pos-≼, ≼-refl}
 use Rattle.integers.specs.Omega.{zarith}
-use Rattle.integers.specs.Inequalities.{from, _&_, weak, split≼}
+use Rattle.integers.specs.Inequalities.{from, _&_, weak, split≼, _⊠⁺_, _⊞⁺_, ≺-≼-trans}
 use Rattle.integers.specs.Absolute.{absℤ, abs-nonneg}
-use Rattle.model.specs.Fractions.{Frac, Point, dist², Closer, Farther, AtMost, AtLeast}
+use Rattle.model.specs.Fractions.{Frac, Point, dist², Closer, AtMost, AtLeast}
 use Rattle.model.specs.Exact.{Points}
+use Rattle.model.specs.Jobs.{isZero}
 use Rattle.model.specs.Strips.{Strip, fits, short}
-use Rattle.model.specs.Explore.{Cell, farthest, atLeast0, room, closest, farthest², closest², isInside, isAway₁, isAway₂, lengthOf, judged}
+use Rattle.model.specs.Roots.{root}
+use Rattle.model.specs.Explore.{Cell, farthest, atLeast0, room, closest, farthest², closest², isInside, isAway₁, isAway₂, lengthOf, hasAxis, judged}
 use Rattle.integers.specs.Within.{Within}
 use Rattle.enclosure.specs.Covers.{In}
-use Rattle.integers.specs.Tests.{lt-true, lt-false, le-true, or-true, or-false, both}
-use Rattle.verdicts.specs.AnswerCases.{tests-inside, tests-away, tests-maybe}
+use Rattle.integers.specs.Tests.{lt-true, lt-false, le-true, le-false, or-true, or-false, both, not-both}
+use Rattle.verdicts.specs.AnswerCases.{clash, tests-inside, tests-away, tests-maybe}
 use Rattle.verdicts.specs.Apart.{InCell, apartX, apartY, apartD, apart-up, apart-is, spreadX, spreadY}
 use Rattle.verdicts.specs.Distances.{reach-bound, gap-bound, most-squared, least-squared, below, above, across-far, band-upper, band-lower, grown-reach, grown-gap}
 use Rattle.verdicts.specs.Roots.{root-reaches}
@@ -52,6 +55,29 @@ pub length-reaches : (S : Strip) → S .x .axis *ℤ S .x .axis +ℤ S .y .axis 
 length-reaches S =
     let n : ℤ = S .x .axis *ℤ S .x .axis +ℤ S .y .axis *ℤ S .y .axis in
     subst (λ t. t ≼ lengthOf S *ℤ lengthOf S) (pos-natAbs n (yes-nonNeg (sq (S .x .axis) ⊞ sq (S .y .axis)))) (pos-≼ (root-reaches (natAbs n)))
+
+-- it is above 0 where the axis is not (0, 0)
+square-above : (p : ℤ) → isZero p ≡ false → pos 0 ≺ p *ℤ p
+unfolding isZero
+square-above (pos zero) e = clash (cc)
+square-above (pos (suc n)) e = num⁺ n ⊠⁺ num⁺ n
+square-above (negsuc n) e = num⁺ n ⊠⁺ num⁺ n
+
+pub squares-above : (p q : ℤ) → (isZero p ≡ false) ⊎ (isZero q ≡ false) → pos 0 ≺ p *ℤ p +ℤ q *ℤ q
+squares-above p q (inl e) = square-above p e ⊞⁺ sq q
+squares-above p q (inr e) = swap p q (square-above q e ⊞⁺ sq p)
+  where
+    swap : (p q : ℤ) → pos 0 ≺ q *ℤ q +ℤ p *ℤ p → pos 0 ≺ p *ℤ p +ℤ q *ℤ q
+    swap p q = name₂ p q λ σ a b. simp (a, b, reify, σ) (omega zarith)
+
+pub length-above : (S : Strip) → hasAxis S ≡ true → pos 0 ≺ lengthOf S
+length-above S e =
+    positive (root (natAbs (S .x .axis *ℤ S .x .axis +ℤ S .y .axis *ℤ S .y .axis)))
+    (≺-≼-trans (squares-above (S .x .axis) (S .y .axis) (not-both (isZero (S .x .axis)) (isZero (S .y .axis)) e)) (length-reaches S))
+  where
+    positive : (n : ℕ) → pos 0 ≺ pos n *ℤ pos n → pos 0 ≺ pos n
+    positive zero h = h
+    positive (suc n) h = num⁺ n
 
 module _ (r : ℤ) (c : Cell) (S : Strip) (P Q : Point) (i : In S P) (j : InCell c Q) where
   -- 16 |x| is at most the farthest, and at least the room, times D
@@ -89,19 +115,19 @@ module _ (r : ℤ) (c : Cell) (S : Strip) (P Q : Point) (i : In S P) (j : InCell
   unfolding isInside
   inside-means e = record { closer = below (dist² P Q .top) (farthest² c S) (dist² P Q .low) r (dist² P Q .up) at-most-farthest (lt-true e) }
 
-  pub away₁-means : isAway₁ r c S ≡ true → Farther P Q (fine r)
+  pub away₁-means : isAway₁ r c S ≡ true → AtLeast P Q (fine r)
   unfolding isAway₁
-  away₁-means e = record { farther = above (dist² P Q .top) (closest² c S) (dist² P Q .low) r (dist² P Q .up) at-least-closest (lt-true e) }
+  away₁-means e = record { least = above (dist² P Q .top) (closest² c S) (dist² P Q .low) r (dist² P Q .up) at-least-closest (le-true e) }
 
-  pub away₂-means : pos 0 ≼ r → isAway₂ r c S ≡ true → Farther P Q (fine r)
+  pub away₂-means : pos 0 ≼ r → isAway₂ r c S ≡ true → AtLeast P Q (fine r)
   unfolding isAway₂
-  away₂-means hr e = record {
-    farther = apart-is P Q (r *ℤ r) (pos 256) (λ a b. b ≺ a)
+  away₂-means hr e = let k = both (hasAxis S) (leZ (r *ℤ lengthOf S) _) e in record {
+    least = apart-is P Q (r *ℤ r) (pos 256) (λ a b. b ≼ a)
         (across-far (apartX P Q) (apartY P Q) (apartD P Q) (i .e .low) (i .e .top) (c .cx -ℤ S .x .centre) (c .cy -ℤ S .y .centre) (S .x .axis) (S .y .axis) (S .x .box +ℤ c .s) (S .y .box +ℤ c .s) r (lengthOf S)
-        (apart-up P Q) (i .e .up) hr (num _) (length-reaches S) (spreadX S c P Q i j) (spreadY S c P Q i j) (lt-true e));
+        (apart-up P Q) (i .e .up) hr (length-above S (k .0)) (length-reaches S) (spreadX S c P Q i j) (spreadY S c P Q i j) (le-true (k .1)));
   }
 
-  pub away-means : pos 0 ≼ r → (isAway₁ r c S || isAway₂ r c S) ≡ true → Farther P Q (fine r)
+  pub away-means : pos 0 ≼ r → (isAway₁ r c S || isAway₂ r c S) ≡ true → AtLeast P Q (fine r)
   away-means hr e = ⊎-elim away₁-means (away₂-means hr) (or-true (isAway₁ r c S) (isAway₂ r c S) e)
 
   -- ---- failed, where the strip is short
@@ -132,15 +158,15 @@ module _ (r : ℤ) (c : Cell) (S : Strip) (P Q : Point) (i : In S P) (j : InCell
           (band-upper (apartX P Q) (apartY P Q) (apartD P Q) (closest (c .cx) (c .s) (S .x)) (closest (c .cy) (c .s) (S .y)) r (spill (c .s) T) hr hu
           (grown-gap (pos 16 *ℤ apartX P Q) (absℤ (c .cx -ℤ S .x .centre)) (absℤ (S .x .axis)) (S .x .box) (c .s) T (apartD P Q) (closest (c .cx) (c .s) (S .x)) (weak (apart-up P Q)) fitX (at0-least (room (c .cx) (c .s) (S .x))) reachX)
           (grown-gap (pos 16 *ℤ apartY P Q) (absℤ (c .cy -ℤ S .y .centre)) (absℤ (S .y .axis)) (S .y .box) (c .s) T (apartD P Q) (closest (c .cy) (c .s) (S .y)) (weak (apart-up P Q)) fitY (at0-least (room (c .cy) (c .s) (S .y))) reachY)
-          (lt-false e));
+          (weak (le-false e)));
     }
 
 -- ---- a strip's answer, of all points of the cell at once
 abbrev pub AllCloser : ℤ → Cell → Points
 AllCloser r c P = (Q : Point) → InCell c Q → Closer P Q (fine r)
 
-abbrev pub AllFarther : ℤ → Cell → Points
-AllFarther r c P = (Q : Point) → InCell c Q → Farther P Q (fine r)
+abbrev pub AllClear : ℤ → Cell → Points
+AllClear r c P = (Q : Point) → InCell c Q → AtLeast P Q (fine r)
 
 abbrev pub AllAtLeast : ℤ → ℤ → Cell → Points
 AllAtLeast r T c P = (Q : Point) → InCell c Q → (pos 2 *ℤ r ≺ pos 3 *ℤ spill (c .s) T) ⊎ AtLeast P Q (halfFine (pos 2 *ℤ r -ℤ pos 3 *ℤ spill (c .s) T))
@@ -148,8 +174,8 @@ AllAtLeast r T c P = (Q : Point) → InCell c Q → (pos 2 *ℤ r ≺ pos 3 *ℤ
 abbrev pub AllAtMost : ℤ → ℤ → Cell → Points
 AllAtMost r T c P = (Q : Point) → InCell c Q → AtMost P Q (halfFine (pos 2 *ℤ r +ℤ pos 3 *ℤ spill (c .s) T))
 
--- what is farther than r is not closer than r − 3u/2; what is closer than r is at most r + 3u/2 away. t over d is the squared distance
-weaken-far : (r u t d : ℤ) → pos 0 ≼ r → pos 0 ≼ u → pos 0 ≺ d → pos 3 *ℤ u ≼ pos 2 *ℤ r → r *ℤ r *ℤ d ≺ t *ℤ (pos 16 *ℤ pos 16) → (pos 2 *ℤ r -ℤ pos 3 *ℤ u) *ℤ (pos 2 *ℤ r -ℤ pos 3 *ℤ u) *ℤ d ≼ t *ℤ (pos 32 *ℤ pos 32)
+-- what is not closer than r is not closer than r − 3u/2; what is closer than r is at most r + 3u/2 away. t over d is the squared distance
+weaken-far : (r u t d : ℤ) → pos 0 ≼ r → pos 0 ≼ u → pos 0 ≺ d → pos 3 *ℤ u ≼ pos 2 *ℤ r → r *ℤ r *ℤ d ≼ t *ℤ (pos 16 *ℤ pos 16) → (pos 2 *ℤ r -ℤ pos 3 *ℤ u) *ℤ (pos 2 *ℤ r -ℤ pos 3 *ℤ u) *ℤ d ≼ t *ℤ (pos 32 *ℤ pos 32)
 weaken-far r u t d hr hu hd k h =
     from (h & hu ⊠ gap k ⊠ weak hd & hu ⊠ hr ⊠ weak hd) (name₄ r u t d λ σ p q s v. simp (p, q, s, v, reify, σ) (omega zarith))
 
@@ -158,16 +184,16 @@ weaken-close r u t d hr hu hd h =
     from (h & hu ⊠ hr ⊠ weak hd & hu ⊠ hu ⊠ weak hd) (name₄ r u t d λ σ p q s v. simp (p, q, s, v, reify, σ) (omega zarith))
 
 module _ (r T : ℤ) (c : Cell) (hr : pos 0 ≼ r) (hu : pos 0 ≼ spill (c .s) T) where
-  far-is-lower : (P : Point) → AllFarther r c P → AllAtLeast r T c P
+  far-is-lower : (P : Point) → AllClear r c P → AllAtLeast r T c P
   far-is-lower P f Q j = ⊎-elim
-      (λ (l : pos 3 *ℤ spill (c .s) T ≼ pos 2 *ℤ r). inr (record { least = weaken-far r (spill (c .s) T) (dist² P Q .top) (dist² P Q .low) hr hu (dist² P Q .up) l (f Q j .farther) }))
+      (λ (l : pos 3 *ℤ spill (c .s) T ≼ pos 2 *ℤ r). inr (record { least = weaken-far r (spill (c .s) T) (dist² P Q .top) (dist² P Q .low) hr hu (dist² P Q .up) l (f Q j .least) }))
       (λ (l : pos 2 *ℤ r ≺ pos 3 *ℤ spill (c .s) T). inl l)
       (split≼ (pos 3 *ℤ spill (c .s) T) (pos 2 *ℤ r))
 
   close-is-upper : (P : Point) → AllCloser r c P → AllAtMost r T c P
   close-is-upper P f Q j = record { most = weaken-close r (spill (c .s) T) (dist² P Q .top) (dist² P Q .low) hr hu (dist² P Q .up) (f Q j .closer) }
 
-  pub reach-sound : Sound T (judged r c) (AllCloser r c) (AllFarther r c) (AllAtLeast r T c) (AllAtMost r T c)
+  pub reach-sound : Sound T (judged r c) (AllCloser r c) (AllClear r c) (AllAtLeast r T c) (AllAtMost r T c)
   reach-sound = record {
     if-inside = λ S P i e Q j. inside-means r c S P Q i j (tests-inside (isInside r c S) (isAway₁ r c S || isAway₂ r c S) e);
     if-away = λ S P i e Q j. away-means r c S P Q i j hr (tests-away (isInside r c S) (isAway₁ r c S || isAway₂ r c S) e);

@@ -1,13 +1,15 @@
 -- `strip_tests::beyond` meets its contract. Assumes nothing.
-use Rattle.integers.specs.Signed.{Made, called, arg, arg-pos, lit, times, minus, over, back, test-lt, above-zero}
-use lib.IntN.{pos, natAbs, _-ℤ_, _*ℤ_}
-use mathlib.Core.Path.{_≡_, _∙_, ap}
+use Rattle.integers.specs.Signed.{Made, called, arg, arg-pos, lit, times, over, back, test-lt, above-zero}
+use lib.IntN.{pos, natAbs, _*ℤ_}
+use mathlib.Core.Path.{_≡_, refl, sym, _∙_, ap₂}
+use mathlib.Core.Bool.{Bool, true, false, not, _&&_}
 use Prim.Native.Nat.{ℕ}
 use native.Mathlib.Omega.{arith}
-use lib.Signed.{ltZ, quotZ, pos-natAbs}
+use lib.Signed.{leZ, quotZ, pos-natAbs}
+use Rattle.model.specs.Jobs.{isZero}
 use Rattle.model.specs.Roots.{root}
 use Rattle.strip_tests.specs.PlainTests.{capBy}
-use Rattle.strip_tests.proofs.Roots.{Asked, asked, refused}
+use Rattle.strip_tests.proofs.Roots.{Asked, asked, refused, no-axis, some-axis}
 use borrow.Author.Needs.{needs}
 use Rattle.strip_tests.proofs.beyond.Statement.{statement}
 use Rattle.strip_tests.proofs.beyond.Tie as tie
@@ -25,26 +27,42 @@ module _ (c : tie.Start) where
   pp : Made (c .args .pp) (pos (natAbs (c .args .pp))) 1152921504606846976
   pp = arg-pos (c .pre .pp-nonneg) (omega (arith, c .pre .pp-size)) (c .fits .pp)
 
-  -- r · pos (root ..) with r as it came
-  as-r : (m : ℕ) → ltZ (pos (natAbs (c .args .r)) *ℤ pos m) (c .args .cross) ≡ ltZ (c .args .r *ℤ pos m) (c .args .cross)
-  as-r m = ap (λ t. ltZ (t *ℤ pos m) (c .args .cross)) (pos-natAbs (c .args .r) (c .pre .cross-reach .r-nonneg))
+  -- the contract's answer, with r and pp as they came
+  as-came : {b : Bool} (m : ℕ) → b ≡ (not (isZero (pos (natAbs (c .args .pp)))) && leZ (pos (natAbs (c .args .r)) *ℤ pos m) (c .args .cross)) → b ≡ (not (isZero (c .args .pp)) && leZ (c .args .r *ℤ pos m) (c .args .cross))
+  as-came m e = e ∙ ap₂ (λ p t. not (isZero p) && leZ (t *ℤ pos m) (c .args .cross)) (pos-natAbs (c .args .pp) (c .pre .pp-nonneg)) (pos-natAbs (c .args .r) (c .pre .cross-reach .r-nonneg))
 
-known : (c : tie.Then1) → Asked (c .before .args .cross) (natAbs (c .before .args .r)) (natAbs (c .before .args .pp))
+-- both tests are needed
+first-fails : (a b : Bool) → a ≡ true → false ≡ (not a && b)
+first-fails a b e = rw e
+
+second-fails : (a b : Bool) → b ≡ false → false ≡ (not a && b)
+second-fails true b e = refl
+second-fails false b e = sym e
+
+first-holds : (a b t : Bool) → a ≡ false → t ≡ b → t ≡ (not a && b)
+first-holds a b t e f = rw (e, f)
+
+known : (c : tie.Else2) → Asked (c .before .before .args .cross) (natAbs (c .before .before .args .r)) (natAbs (c .before .before .args .pp))
 known c =
-    let s = c .before in
-    asked (s .args .cross) (natAbs (s .args .r)) (natAbs (s .args .pp)) (natAbs (s .args .low)) (s .pre .cross-reach .r-above) (omega (arith, s .pre .pp-size)) (test-lt (times (r s) (low s) tt) (cross s) (c .if1 .taken))
+    let s = c .before .before in
+    asked (s .args .cross) (natAbs (s .args .r)) (natAbs (s .args .pp)) (natAbs (s .args .low)) (s .pre .cross-reach .r-above) (omega (arith, s .pre .pp-size)) (test-lt (cross s) (times (r s) (low s) tt) (c .before .if1 .left))
 
-k : (c : tie.After-cap) → Made (c .cap .result) (capBy (quotZ (c .before .before .args .cross -ℤ pos 1) (pos (natAbs (c .before .before .args .r))))) 1073741824
-k c = let s = c .before .before in called (rw (back (over (minus (cross s) (lit 1 tt) tt) (r s) tt)) at (c .cap .ensures)) (known (c .before) .size) tt
+k : (c : tie.After-cap) → Made (c .cap .result) (capBy (quotZ (c .before .before .before .args .cross) (pos (natAbs (c .before .before .before .args .r))))) 1073741824
+k c = let s = c .before .before .before in called (rw (back (over (cross s) (r s) tt)) at (c .cap .ensures)) (known (c .before) .size) tt
 
 mul-if1 : tie.Need-mul-if1
 mul-if1 c = (times (r c) (low c) tt) .fits
 
-sub-cap : tie.Need-sub-cap
-sub-cap c = (minus (cross (c .before)) (lit 1 tt) tt) .fits
+returns : tie.Need-returns
+returns c =
+    let s = c .before in
+    as-came s (root (natAbs (s .args .pp))) (second-fails (isZero (pos (natAbs (s .args .pp)))) _ (refused (s .args .cross) (natAbs (s .args .r)) (natAbs (s .args .pp)) (natAbs (s .args .low)) (s .pre .low-under) (test-lt (cross s) (times (r s) (low s) tt) (c .if1 .taken))))
+
+returns-2 : tie.Need-returns-2
+returns-2 c = let s = c .before .before in as-came s (root (natAbs (s .args .pp))) (first-fails _ _ (no-axis (natAbs (s .args .pp)) (test-lt (pp s) (lit 1 tt) (c .if2 .taken))))
 
 div-cap : tie.Need-div-cap
-div-cap c = let s = c .before in (above-zero (r s) (s .pre .cross-reach .r-above), (over (minus (cross s) (lit 1 tt) tt) (r s) tt) .fits)
+div-cap c = let s = c .before .before in (above-zero (r s) (s .pre .cross-reach .r-above), (over (cross s) (r s) tt) .fits)
 
 cap-requires : tie.Need-cap-requires
 cap-requires c κs = search needs
@@ -52,12 +70,10 @@ cap-requires c κs = search needs
 mul-result : tie.Need-mul-result
 mul-result c = (times (k c) (k c) tt) .fits
 
-returns : tie.Need-returns
-returns c = let s = c .before .before in rw (back (pp s), back (times (k c) (k c) tt)) (known (c .before) .answer ∙ as-r s (root (natAbs (s .args .pp))))
-
-returns-2 : tie.Need-returns-2
-returns-2 c = let s = c .before in refused (s .args .cross) (natAbs (s .args .r)) (natAbs (s .args .pp)) (natAbs (s .args .low)) (s .pre .low-under) (test-lt (times (r s) (low s) tt) (cross s) (c .if1 .left)) ∙ as-r s (root (natAbs (s .args .pp)))
+returns-3 : tie.Need-returns-3
+returns-3 c =
+    let s = c .before .before .before in
+    as-came s (root (natAbs (s .args .pp))) (first-holds _ _ _ (some-axis (natAbs (s .args .pp)) (test-lt (pp s) (lit 1 tt) (c .before .if2 .left))) (rw (back (pp s), back (times (k c) (k c) tt)) (known (c .before) .answer)))
 
 pub beyond-spec : {M : Type 1} → statement M
-beyond-spec =
-    tie.close (tie.spec mul-if1 sub-cap div-cap cap-requires mul-result returns returns-2)
+beyond-spec = tie.close (tie.spec mul-if1 returns returns-2 div-cap cap-requires mul-result returns-3)
