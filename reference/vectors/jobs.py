@@ -113,6 +113,44 @@ def pads():
     case("pad_none_long", -8, -8, 4, 1, 4, 2, [just])
 
 
+def touching():
+    """Cells exactly at the reach, which are clear, and cells that miss it, each named by its lower left corner."""
+    # Beside the upright box of a slanting line; those at (8, 2) and (-4, 4) touch across the slant.
+    case("touch_edge", -8, -8, 5, 1, 4, 8, [[0, 0, 6, 8]])
+    # At (9, 12), which is (3, 4) off a corner of that box, and at (-5, -6), off the other end of the line.
+    case("touch_corner", -7, -8, 5, 1, 5, 8, [[0, 0, 6, 8]])
+    # Six cells (4, -3) or (-4, 3) off the line itself, by the second test alone, as at (10, 3) in the upright box.
+    case("touch_slant", -8, -7, 5, 1, 5, 8, [[0, 0, 12, 16]])
+    # The same at (1, -4) for a cubic with a box, axis (-18, -24).
+    case("touch_slant_and_box", -8, -8, 4, 0, 2, 3, [cubic([0, -2, 1, -3], [0, 1, 0, -3])])
+    # The same at (25, -40), (33, -32) and (41, -24) for an axis of (40, 40), for whose length 57 stands.
+    case("touch_slant_root_not_whole", -63, -64, 7, 3, 40, 3, [[0, 0, 5, 5]])
+    # One point: cells 5, or (3, 4), off it are clear. Cells whose far corner is so far off are not inside.
+    case("touch_point", -8, -8, 4, 0, 5, 1, [POINT])
+    # Axis (0, 0) and box (48, 48): the second test, 0 at least 0, would make every cell clear.
+    case("touch_box_alone", -7, -6, 5, 1, 5, 3, [cubic([0, 8, 8, 0], [0, 8, 8, 0])])
+    # The least and the greatest reach.
+    case("touch_reach_1", -4, -4, 3, 0, 1, 1, [POINT])
+    case("touch_reach_longest", 0, -8, 4, 1, 1000000, 1, [[-1000000, 0, -1000000, 0]])
+    # The second test in large numbers, at the plate's upper left corner.
+    case("touch_slant_large", 800000, -600016, 4, 1, 1000000, 100000, [[-600000, -800000, 600000, 800000]])
+    # The plate is a single cell and touches with its corner.
+    case("touch_plate", 3, 4, 4, 4, 5, 1, [POINT])
+    # At (3, 4) a cell touches the reach of both points; at (5, 0) it touches one and is inside of the other.
+    case("touch_and_near", -5, -8, 4, 1, 5, 1, [[0, 0, 0, 0], [8, 0, 8, 0]])
+    # The whole edge ends at 64 fine units and settles the cell at (8, 0), though its right half sticks out to 65.
+    case("touch_whole_not_half", -8, -8, 5, 1, 4, 3, [cubic([0, -1, -1, 4], [0] * 4)])
+    # The halves end at -33 and 63 fine units. On the left the cells at (-8, 0), (-7, 3) and (-6, 4) miss the first test
+    # by one and are D; on the right, at (9, 0) and (7, 4), the halves have one to spare.
+    case("touch_missed", -14, -16, 5, 0, 5, 3, [cubic([0, 5, 3, -2], [0] * 4)])
+    # Axis (24, 21): the cell at (4, -3) touches by the second test, and the D at (-4, 3) would a fine unit higher.
+    case("touch_missed_slant", -8, -8, 4, 0, 3, 3, [cubic([0, -1, 0, 3], [0, 0, -1, 3])])
+    # Axis (12, -16), 20 long: the D at (4, 3) would touch by the second test a fine unit to the right.
+    case("touch_missed_slant_root_whole", -8, -8, 4, 0, 1, 3, [cubic([0, 6, -1, 3], [0, 6, 0, -1])])
+    # At (-2, 0) all leaves but one are away, and that one's cross product is 1 too small.
+    case("touch_missed_slant_by_least", -8, -8, 4, 0, 1, 1, [cubic([-2, 3, 2, 1], [-3, 3, 0, -2])])
+
+
 def store(crate, names):
     data = TOP / "crates" / crate / "data"
     data.mkdir(parents=True, exist_ok=True)
@@ -131,6 +169,8 @@ def main():
     case("refused_6", 0, -8, 4, 2, 4, 489, [straight, straight])
     case("straight_longest_977", 0, -8, 4, 2, 4, 977, [[-1000000, 0, 1000000, 0]])
     case("straight_longest_976", 0, -8, 4, 2, 4, 976, [[-1000000, 0, 1000000, 0]])
+    # Not for points: their bounds know no reach.
+    touching()
     for path in sorted((TOP / "examples").glob("*.sheet")):
         cases["example_" + path.stem] = path.read_text()
     store("map_cases", list(cases))

@@ -62,8 +62,12 @@ ten = spot (pos 6) (pos 8)
 
 abbrev pub exactFigures : List Figure
 exactFigures =
+    -- a cell with a point on either side of the reach
+    exact O five ten (pos 6) mixed true
+    ∷ exact O five ten (pos 6) clear false
+    ∷ exact O five ten (pos 6) within false
     -- a reach below the distance, at it and above it: at the reach exactly a cell is clear
-    exact O five five (pos 4) clear true
+    ∷ exact O five five (pos 4) clear true
     ∷ exact O five five (pos 4) within false
     ∷ exact O five five (pos 4) mixed false
     ∷ exact O five five (pos 5) clear true
@@ -73,10 +77,6 @@ exactFigures =
     ∷ exact O five five (pos 6) clear false
     ∷ exact O five five (pos 6) within true
     ∷ exact O five five (pos 6) mixed false
-    -- a point on either side of the reach
-    ∷ exact O five ten (pos 6) clear false
-    ∷ exact O five ten (pos 6) within false
-    ∷ exact O five ten (pos 6) mixed true
     -- at 5 and on either side; a length below 0 asks nothing, and 0 asks what is so
     ∷ no-closer O five (whole (pos 5)) true
     ∷ no-closer O five (over (pos 11) 1) false
@@ -95,97 +95,87 @@ exactFigures =
     ∷ []
 
 -- ---- the statement
--- of one point and two others: what the definitions ask of all points they ask of these
+-- what is asked of all points is asked of these, the outline's one and the cell's two. The lengths are left to the definitions
 each : (q q′ : Point) (B : Points) → B q → B q′ → (Q : Point) → pair q q′ Q → B Q
 each q q′ B h k Q (inl e) = subst B (sym e) h
 each q q′ B h k Q (inr e) = subst B (sym e) k
 
-clear-if : (p q q′ : Point) (R : ℤ) → AtLeast p q (whole R) → AtLeast p q′ (whole R) → Clear (only p) (pair q q′) R
-unfolding Clear
-clear-if p q q′ R h k Q e P f = subst (λ X. AtLeast X Q (whole R)) (sym f) (each q q′ (λ X. AtLeast p X (whole R)) h k Q e)
+for-all : (p q q′ : Point) (B : Point → Points) → B p q → B p q′ → (Q : Point) → pair q q′ Q → (P : Point) → only p P → B P Q
+for-all p q q′ B h k Q e P f = subst (λ X. B X Q) (sym f) (each q q′ (B p) h k Q e)
 
-clear-so : (p q q′ : Point) (R : ℤ) → Clear (only p) (pair q q′) R → AtLeast p q (whole R)
-unfolding Clear
-clear-so p q q′ R h = h q (inl refl) p refl
+far : (p q q′ : Point) (l : Frac) → AtLeast p q l → AtLeast p q′ l → (Q : Point) → pair q q′ Q → (P : Point) → only p P → AtLeast P Q l
+far p q q′ l = for-all p q q′ (λ P Q. AtLeast P Q l)
 
-inside-if : (p q q′ : Point) (R : ℤ) → Closer p q (whole R) → Closer p q′ (whole R) → Inside (only p) (pair q q′) R
-unfolding Inside
-inside-if p q q′ R h k = each q q′ (λ Q. (P : Point) × only p P × Closer P Q (whole R)) (p, refl, h) (p, refl, k)
+off : (p q : Point) (l : Frac) → (l <ᶠ whole (pos 0)) ⊎ AtLeast p q l → (Q : Point) → pair q q Q → (P : Point) → only p P → (l <ᶠ whole (pos 0)) ⊎ AtLeast P Q l
+off p q l h = for-all p q q (λ P Q. (l <ᶠ whole (pos 0)) ⊎ AtLeast P Q l) h h
 
-inside-so : (p q q′ : Point) (R : ℤ) → Inside (only p) (pair q q′) R → Closer p q′ (whole R)
-unfolding Inside
-inside-so p q q′ R h = let g = h q′ (inr refl) in subst (λ X. Closer X q′ (whole R)) (g .1) (g .2)
+near : (p q q′ : Point) (l : Frac) → Closer p q l → Closer p q′ l → (Q : Point) → pair q q′ Q → (P : Point) × only p P × Closer P Q l
+near p q q′ l h k = each q q′ (λ Q. (P : Point) × only p P × Closer P Q l) (p, refl, h) (p, refl, k)
 
-far-if : (p q : Point) (l : Frac) → (l <ᶠ whole (pos 0)) ⊎ AtLeast p q l → NoCloser (only p) (pair q q) l
-unfolding NoCloser
-far-if p q l h Q e P f = subst (λ X. (l <ᶠ whole (pos 0)) ⊎ AtLeast X Q l) (sym f) (each q q (λ X. (l <ᶠ whole (pos 0)) ⊎ AtLeast p X l) h h Q e)
+by : (p q : Point) (l : Frac) → AtMost p q l → (Q : Point) → pair q q Q → (P : Point) × only p P × AtMost P Q l
+by p q l h = each q q (λ Q. (P : Point) × only p P × AtMost P Q l) (p, refl, h) (p, refl, h)
 
-far-so : (p q : Point) (l : Frac) → NoCloser (only p) (pair q q) l → (l <ᶠ whole (pos 0)) ⊎ AtLeast p q l
-unfolding NoCloser
-far-so p q l h = h q (inl refl) p refl
+nearer : (p q : Point) (l : Frac) → (P : Point) × only p P × Closer P q l → Closer p q l
+nearer p q l g = subst (λ P. Closer P q l) (g .1) (g .2)
 
-near-if : (p q : Point) (l : Frac) → AtMost p q l → SomeNear (only p) (pair q q) l
-unfolding SomeNear
-near-if p q l h = each q q (λ Q. (P : Point) × only p P × AtMost P Q l) (p, refl, h) (p, refl, h)
-
-near-so : (p q : Point) (l : Frac) → SomeNear (only p) (pair q q) l → AtMost p q l
-unfolding SomeNear
-near-so p q l h = let g = h q (inl refl) in subst (λ X. AtMost X q l) (g .1) (g .2)
+within-most : (p q : Point) (l : Frac) → (P : Point) × only p P × AtMost P q l → AtMost p q l
+within-most p q l g = subst (λ P. AtMost P q l) (g .1) (g .2)
 
 unlike : (v w : Verdict) → T (not (eqb (letter v) (letter w))) → v ≡ w → ⊥
 unlike v w t e = T-not (eqb (letter v) (letter w)) t (subst (λ x. T (eqb (letter v) (letter x))) e (eqb-refl (letter v)))
 
 pub exact-holds : AllHold Holds exactFigures
+unfolding Clear Inside NoCloser SomeNear
 exact-holds =
-    clear-if O five five (pos 4) (record { least = record { le = tt } }) (record { least = record { le = tt } })
-    and (λ h. inside-so O five five (pos 4) h .closer .lt)
-    and (λ h. h .0 (clear-if O five five (pos 4) (record { least = record { le = tt } }) (record { least = record { le = tt } })))
-    and clear-if O five five (pos 5) (record { least = record { le = tt } }) (record { least = record { le = tt } })
-    and (λ h. inside-so O five five (pos 5) h .closer .lt)
-    and (λ h. h .0 (clear-if O five five (pos 5) (record { least = record { le = tt } }) (record { least = record { le = tt } })))
+    ((λ h. h five (inl refl) O refl .least .le), (λ h. nearer O ten _ (h ten (inr refl)) .closer .lt))
+    and (λ h. h five (inl refl) O refl .least .le)
+    and (λ h. nearer O ten _ (h ten (inr refl)) .closer .lt)
+    and far O five five _ (record { least = record { le = tt } }) (record { least = record { le = tt } })
+    and (λ h. nearer O five _ (h five (inr refl)) .closer .lt)
+    and (λ h. h .0 (far O five five _ (record { least = record { le = tt } }) (record { least = record { le = tt } })))
+    and far O five five _ (record { least = record { le = tt } }) (record { least = record { le = tt } })
+    and (λ h. nearer O five _ (h five (inr refl)) .closer .lt)
+    and (λ h. h .0 (far O five five _ (record { least = record { le = tt } }) (record { least = record { le = tt } })))
     and (λ h. h)
-    and (λ h. clear-so O five five (pos 6) h .least .le)
-    and inside-if O five five (pos 6) (record { closer = record { lt = tt } }) (record { closer = record { lt = tt } })
-    and (λ h. h .1 (inside-if O five five (pos 6) (record { closer = record { lt = tt } }) (record { closer = record { lt = tt } })))
-    and (λ h. clear-so O five ten (pos 6) h .least .le)
-    and (λ h. inside-so O five ten (pos 6) h .closer .lt)
-    and ((λ h. clear-so O five ten (pos 6) h .least .le), (λ h. inside-so O five ten (pos 6) h .closer .lt))
-    and far-if O five (whole (pos 5)) (inr (record { least = record { le = tt } }))
-    and (λ h. elim (far-so O five (over (pos 11) 1) h) [ inl b ↦ b .lt | inr b ↦ b .least .le ])
-    and far-if O five (whole (negsuc 5)) (inl (record { lt = tt }))
-    and far-if O O (whole (pos 0)) (inr (record { least = record { le = tt } }))
-    and near-if O five (whole (pos 5)) (record { most = record { le = tt } })
-    and (λ h. near-so O five (over (pos 9) 1) h .most .le)
+    and (λ h. h five (inl refl) O refl .least .le)
+    and near O five five _ (record { closer = record { lt = tt } }) (record { closer = record { lt = tt } })
+    and (λ h. h .1 (near O five five _ (record { closer = record { lt = tt } }) (record { closer = record { lt = tt } })))
+    and off O five _ (inr (record { least = record { le = tt } }))
+    and (λ h. elim (h five (inl refl) O refl) [ inl b ↦ b .lt | inr b ↦ b .least .le ])
+    and off O five _ (inl (record { lt = tt }))
+    and off O O _ (inr (record { least = record { le = tt } }))
+    and by O five _ (record { most = record { le = tt } })
+    and (λ h. within-most O five _ (h five (inl refl)) .most .le)
     and doubted
     and (λ h. h .not-mixed refl)
     and cleared
-    and (λ h. inside-so O five five (pos 5) (h .if-inside refl) .closer .lt)
-    and (λ h. clear-so O five five (pos 6) (h .if-clear refl) .least .le)
-    and (λ h. elim (far-so O five (R-E (pos 10) (pos 1) 0) (h .if-doubtful refl .0)) [ inl b ↦ b .lt | inr b ↦ b .least .le ])
-    and (λ h. near-so O ten (R+E (pos 5) (pos 1) 0) (h .if-doubtful refl .1) .most .le)
+    and (λ h. nearer O five _ (h .if-inside refl five (inr refl)) .closer .lt)
+    and (λ h. h .if-clear refl five (inl refl) O refl .least .le)
+    and (λ h. elim (h .if-doubtful refl .0 five (inl refl) O refl) [ inl b ↦ b .lt | inr b ↦ b .least .le ])
+    and (λ h. within-most O ten _ (h .if-doubtful refl .1 ten (inl refl)) .most .le)
     and tt
   where
-    -- a doubtful cell is none of the exact verdicts
+    -- where the exact verdict is clear a map may doubt
     doubted : Demand3 (only O) (pair five five) (pos 5) (pos 1) 0 doubtful
     doubted = record {
       not-mixed = unlike doubtful mixed tt;
       if-clear = λ e. absurd (unlike doubtful clear tt e);
       if-inside = λ e. absurd (unlike doubtful within tt e);
-      if-doubtful = λ e. (far-if O five (R-E (pos 5) (pos 1) 0) (inr (record { least = record { le = tt } })), near-if O five (R+E (pos 5) (pos 1) 0) (record { most = record { le = tt } }));
+      if-doubtful = λ e. (off O five _ (inr (record { least = record { le = tt } })), by O five _ (record { most = record { le = tt } }));
       agrees = agreed;
     }
       where
         agreed : (v : Verdict) → Exact (only O) (pair five five) (pos 5) v → (doubtful ≡ v) ↔ (doubtful ≡ doubtful → ⊥)
         agreed clear h = ((λ e. absurd (unlike doubtful clear tt e)), (λ f. absurd (f refl)))
-        agreed within h = absurd (inside-so O five five (pos 5) h .closer .lt)
+        agreed within h = absurd (nearer O five _ (h five (inr refl)) .closer .lt)
         agreed doubtful h = absurd h
-        agreed mixed h = absurd (h .0 (clear-if O five five (pos 5) (record { least = record { le = tt } }) (record { least = record { le = tt } })))
+        agreed mixed h = ((λ e. absurd (unlike doubtful mixed tt e)), (λ f. absurd (f refl)))
 
-    -- a clear one is clear, and no other
+    -- or say so
     cleared : Demand3 (only O) (pair five five) (pos 5) (pos 1) 0 clear
     cleared = record {
       not-mixed = unlike clear mixed tt;
-      if-clear = λ e. clear-if O five five (pos 5) (record { least = record { le = tt } }) (record { least = record { le = tt } });
+      if-clear = λ e. far O five five _ (record { least = record { le = tt } }) (record { least = record { le = tt } });
       if-inside = λ e. absurd (unlike clear within tt e);
       if-doubtful = λ e. absurd (unlike clear doubtful tt e);
       agrees = agreed;
@@ -193,6 +183,6 @@ exact-holds =
       where
         agreed : (v : Verdict) → Exact (only O) (pair five five) (pos 5) v → (clear ≡ v) ↔ (clear ≡ doubtful → ⊥)
         agreed clear h = ((λ e. unlike clear doubtful tt), (λ f. refl))
-        agreed within h = absurd (inside-so O five five (pos 5) h .closer .lt)
+        agreed within h = absurd (nearer O five _ (h five (inr refl)) .closer .lt)
         agreed doubtful h = absurd h
-        agreed mixed h = absurd (h .0 (clear-if O five five (pos 5) (record { least = record { le = tt } }) (record { least = record { le = tt } })))
+        agreed mixed h = absurd (h .0 (far O five five _ (record { least = record { le = tt } }) (record { least = record { le = tt } })))

@@ -1,18 +1,17 @@
 -- A number is at least r times a root where the square is at most that of a quotient. Assumes nothing.
 use mathlib.Core.Path.{_≡_, refl, sym, ap, subst}
-use mathlib.Core.Bool.{Bool, true, false, not, cond, _&&_}
-use Prim.Native.Nat.{ℕ, zero, suc, _+_, _*_, _/_, _≤_, _<_}
+use mathlib.Core.Bool.{Bool, true, false, cond}
+use Prim.Native.Nat.{ℕ, suc, _+_, _*_, _/_, _≤_, _<_}
 use native.Mathlib.Nat.{le-trans, mul-le-mul, le-refl, div-add-mod', mod-lt}
 use native.Mathlib.Decide.{decLe}
 use native.Mathlib.Omega.{arith}
-use borrow.Author.Tests.{ltb-true, ltb-false, ne-eqb}
+use borrow.Author.Tests.{ltb-true, ltb-false}
 use lib.Dec.{ltb, leb, leb→le, le→leb}
 use lib.IntN.{ℤ, pos, negsuc, natAbs, _*ℤ_}
 use lib.Signed.{ltZ, leZ, quotZ}
 use Rattle.integers.specs.Tests.{alike}
 use Rattle.strip_tests.specs.PlainTests.{capBy}
 use Rattle.verdicts.specs.AnswerCases.{clash}
-use Rattle.model.specs.Jobs.{isZero}
 use Rattle.model.specs.Roots.{root}
 use Rattle.verdicts.specs.Roots.{root-reaches, root-least}
 
@@ -61,11 +60,11 @@ beyond-law n d m hd hm = alike (leb m (k * k)) (leb (d * root m) n)
 pub short-law : (n d m low : ℕ) → low * low ≤ m → n < d * low → leb (d * root m) n ≡ false
 short-law n d m low h k = alike (leb (d * root m) n) false (λ t. omega (arith, leb→le (d * root m) n t, l)) absurd
   where
-    under : (a b : ℕ) → a * a ≤ b * b → a ≤ b
-    under a b h = elim (decLe a b) [ yes p ↦ p | no p ↦ absurd (let q : suc b * suc b ≤ a * a = mul-le-mul (omega arith) (omega arith) in omega arith) ]
+    root-of : (a b : ℕ) → a * a ≤ b * b → a ≤ b
+    root-of a b h = elim (decLe a b) [ yes p ↦ p | no p ↦ absurd (let q : suc b * suc b ≤ a * a = mul-le-mul (omega arith) (omega arith) in omega arith) ]
 
     l : d * low ≤ d * root m
-    l = mul-le-mul (le-refl d) (under low (root m) (le-trans h (root-reaches m)))
+    l = mul-le-mul (le-refl d) (root-of low (root m) (le-trans h (root-reaches m)))
 
 -- ---- over ℤ, as the code has them
 cap-pos : (j : ℕ) → capBy (pos j) ≡ pos (capped j)
@@ -97,13 +96,3 @@ asked (negsuc n) d m low h k e = clash (cc)
 pub refused : (x : ℤ) (d m low : ℕ) → low * low ≤ m → ltZ x (pos d *ℤ pos low) ≡ true → leZ (pos d *ℤ pos (root m)) x ≡ false
 refused (pos n) d m low h e = short-law n d m low h (ltb-true n (d * low) e)
 refused (negsuc n) d m low h e = refl
-
--- below 1 is 0, and no other
-pub no-axis : (m : ℕ) → ltZ (pos m) (pos 1) ≡ true → isZero (pos m) ≡ true
-unfolding isZero
-no-axis zero e = refl
-no-axis (suc m) e = absurd (omega (arith, ltb-true (suc m) 1 e))
-
-pub some-axis : (m : ℕ) → ltZ (pos m) (pos 1) ≡ false → isZero (pos m) ≡ false
-unfolding isZero
-some-axis m e = ne-eqb m 0 (λ h. omega (arith, ltb-false m 1 e))

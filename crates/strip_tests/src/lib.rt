@@ -4,6 +4,7 @@ use rounding::abs;
 ghost use mathlib.Core.Path.{_≡_};
 ghost use Prim.Native.Nat.{_≤_};
 ghost use lib.IntN.{natAbs};
+ghost use Rattle.model.specs.Jobs.{isZero};
 ghost use Rattle.strip_tests.specs.PlainTests.{insideBy, apartBy, excessBy, mostBy, capBy, isBeyond, slantedBy, judgeBy, code};
 ghost use Rattle.strip_tests.specs.Limits.{SpanSized, CrossSized, NodeSized};
 
@@ -51,8 +52,15 @@ fn apart(ax: i64, ay: i64, ex: i64, ey: i64, r: i64) -> bool
     reach <= near
 }
 
+// an axis (0, 0), and no other, has squares that add up to 0
+fn no_axis(pp: i64) -> bool
+    ensures told { λ b. ⌜ b ≡ isZero pp ⌝ }
+{
+    pp == 0
+}
+
 // cross >= r * L, with L the root of pp rounded up: just where pp is at most the square of cross / r. low is a whole number up to L: most
-// calls end at it, without a division. Of an axis (0, 0), and of no other, pp is 0, and no cell is across it
+// calls end at it, without a division. Across an axis (0, 0) no cell is away
 fn beyond(cross: i64, r: i64, low: i64, pp: i64) -> bool
     requires sizes { ⌜ CrossSized cross r low pp ⌝ }
     ensures told { λ b. ⌜ b ≡ isBeyond cross r pp ⌝ }
@@ -60,7 +68,7 @@ fn beyond(cross: i64, r: i64, low: i64, pp: i64) -> bool
     if cross < r * low {
         return false;
     }
-    if pp < 1 {
+    if no_axis(pp) {
         return false;
     }
     let k = cap(cross / r);
