@@ -134,9 +134,9 @@ enum {
 #define CLEARANCE_STORE_MOST 917056
 
 /* The letters of a map. */
-/* No point of the cell is within reach of the outline. */
+/* Every point of the cell is at least the reach away from every point of the outline. */
 #define CLEARANCE_CLEAR 'C'
-/* Every point of the cell is within reach of the outline. */
+/* Every point of the cell has a point of the outline closer than the reach. */
 #define CLEARANCE_INSIDE 'I'
 /* Neither is claimed. */
 #define CLEARANCE_DOUBTFUL 'D'

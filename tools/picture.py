@@ -10,6 +10,8 @@ from sheets import is_line
 # Light, middle and dark, so that they differ in grey too; blue, yellow and red-brown differ for colour-blind eyes.
 COLOURS = {"C": "#dfe8f1", "D": "#f0b429", "I": "#b5460f"}
 NAMES = {"C": "clear", "D": "doubtful", "I": "inside"}
+# What the two say of every point of a cell.
+MEANINGS = ("clear: at least the reach away", "inside: closer than the reach")
 INK = "#111111"
 PAPER = "#ffffff"
 
@@ -41,7 +43,8 @@ def layout(width):
     foot = MARGIN + plate + ROW
     beside = width >= BESIDE_WIDTH
     legend = (width - MARGIN - LEGEND_WIDTH, foot) if beside else (MARGIN, foot + 4 * ROW)
-    return Layout(width, plate, foot, legend, legend[1] + 4 * ROW + MARGIN // 2)
+    rows = len(NAMES) + 1 + len(MEANINGS)
+    return Layout(width, plate, foot, legend, legend[1] + rows * ROW + MARGIN // 2)
 
 
 def millimetres(hundredths):
@@ -196,7 +199,9 @@ def legend(sheet, rows, place):
         ]
     y = top + 3 * ROW
     lines.append(f'<path d="M{left} {y + 7}h{KEY}" stroke="{INK}" stroke-width="{LINE}"/>')
-    return lines + [text(left + KEY + 8, y + 11.5, "outline"), "</g>"]
+    lines.append(text(left + KEY + 8, y + 11.5, "outline"))
+    lines += [text(left, y + (index + 1) * ROW + 11.5, words) for index, words in enumerate(MEANINGS)]
+    return lines + ["</g>"]
 
 
 def text(x, y, words, anchor="start"):

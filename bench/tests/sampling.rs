@@ -57,6 +57,18 @@ fn the_sample_is_drawn_without_mistakes() {
 }
 
 #[test]
+fn a_clear_cell_at_the_reach_exactly_is_not_wrong() {
+    let mut job = sample_job();
+    let letters = finished(&job).unwrap().letters;
+    assert_eq!(letters[3 * 8 + 1], b'C');
+    assert_eq!(wrong_cells(&job, &letters), Wrong::default());
+    // A hundredth more reaches eight cells that are 4 off and eight that are
+    // (4, 2) off.
+    job.reach += 1;
+    assert_eq!(wrong_cells(&job, &letters).clear, 16);
+}
+
+#[test]
 fn a_hairpin_tip_is_missed() {
     let job = example("hairpin");
     assert!(straying(&job, STEPS) > f64::from(job.reach) / 2.0);

@@ -20,10 +20,12 @@ pub enum Shape {
     Cusp,
     Loop,
     Closed,
+    /// There and back by the same way, so that its strip has no axis.
+    Back,
     Free,
 }
 
-pub const SHAPES: [Shape; 9] = [
+pub const SHAPES: [Shape; 10] = [
     Shape::Spot,
     Shape::Crumb,
     Shape::Straight,
@@ -32,6 +34,7 @@ pub const SHAPES: [Shape; 9] = [
     Shape::Cusp,
     Shape::Loop,
     Shape::Closed,
+    Shape::Back,
     Shape::Free,
 ];
 
@@ -143,6 +146,7 @@ impl Ground {
             Shape::Cusp => [[0, 0], [w, h], [0, h], [w, 0]],
             Shape::Loop => [[0, 0], [2 * w, h], [-w, h], [w, 0]],
             Shape::Closed => [p, a, b, p],
+            Shape::Back => [p, a, a, p],
             Shape::Free => [p, a, b, q],
         }
     }

@@ -47,6 +47,14 @@ impl Comparison {
         self
     }
 
+    /// Asks something of the library alone.
+    pub fn demand(mut self, holds: bool, difference: impl FnOnce() -> String) -> Comparison {
+        if self.difference.is_none() && !holds {
+            self.difference = Some(difference());
+        }
+        self
+    }
+
     /// The fault, if there is a difference; the call is only then described.
     pub fn finish(self, call: impl FnOnce() -> String) -> Result<(), Fault> {
         match self.difference {

@@ -12,6 +12,8 @@ pub struct Kind {
     share: usize,
     /// Numbers that its calls must give in a whole pass, or it was no test.
     pub must_give: &'static [u8],
+    /// Whether a tie of each test must be drawn in a whole pass.
+    pub must_tie: bool,
     /// Runs one case.
     pub run: fn(&mut Random, &mut Tally) -> Result<(), Fault>,
 }
@@ -26,7 +28,15 @@ const fn kind(
         name,
         share,
         must_give,
+        must_tie: false,
         run,
+    }
+}
+
+const fn with_ties(kind: Kind) -> Kind {
+    Kind {
+        must_tie: true,
+        ..kind
     }
 }
 
@@ -44,7 +54,7 @@ pub const KINDS: [Kind; 16] = [
         write_case::illegal,
     ),
     kind("maps drawn", 24, &[0, 2, 5], map_case::drawn),
-    kind("maps at ties", 10, &[0], map_case::tied),
+    with_ties(kind("maps at ties", 10, &[0], map_case::tied)),
     kind("maps of many edges", 3, &[0], map_case::crowded),
     kind("maps by length", 8, &[0, 5, 6, 7], map_case::lengths),
     kind(

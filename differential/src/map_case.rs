@@ -3,13 +3,13 @@
 use crate::fault::{number_of, Comparison, Fault};
 use crate::jobs::{crowded_job, sketch_job, tuned_job};
 use crate::lent::Lent;
-use crate::numbers::{describe, reference_job, Numbers, COUNT, M, N};
+use crate::numbers::{binding_job, describe, reference_job, Numbers, COUNT, M, N};
 use crate::random::Random;
 use crate::rows::Row;
 use crate::spoiling::spoil;
 use crate::stores::right_numbers;
 use crate::tally::Tally;
-use crate::ties::tied_job;
+use crate::ties::{tied_job, Tie};
 use clearance::ffi;
 
 /// How much is lent: numbers of store and bytes of map.
@@ -94,8 +94,26 @@ pub fn drawn(random: &mut Random, tally: &mut Tally) -> Result<(), Fault> {
 
 /// Legal jobs in which a cell meets a test with equality.
 pub fn tied(random: &mut Random, tally: &mut Tally) -> Result<(), Fault> {
-    let job = tied_job(random);
-    compare(&job, need(&job), random.bits(), tally)
+    let (job, tie) = tied_job(random);
+    compare(&job, need(&job), random.bits(), tally)?;
+    tie.map_or(Ok(()), |tie| compare_letter(&job, tie, tally))
+}
+
+/// The library's letter at a tie, where the map is drawn, beside what the test
+/// allows there.
+fn compare_letter(job: &Numbers, tie: Tie, tally: &mut Tally) -> Result<(), Fault> {
+    let (numbers, bytes) = need(job);
+    let (mut store, mut cells) = (vec![0; numbers], vec![0; bytes]);
+    if clearance::map(&binding_job(job), &mut store, &mut cells).is_err() {
+        return Ok(());
+    }
+    tally.note_tie(tie.test);
+    let letter = char::from(cells[tie.index]);
+    Comparison::default()
+        .demand(tie.test.allows(letter), || {
+            format!("cells[{}]: {letter} at a tie of {:?}", tie.index, tie.test)
+        })
+        .finish(|| describe(job))
 }
 
 /// Legal jobs of many edges.

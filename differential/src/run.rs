@@ -72,6 +72,10 @@ impl Run {
                     return None;
                 }
             }
+            if kind.must_tie && tally.ties.contains(&0) {
+                println!("NO TEST: {} never drew a tie of some test", kind.name);
+                return None;
+            }
         }
         Some(())
     }

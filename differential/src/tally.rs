@@ -1,5 +1,6 @@
 //! Counts of what was compared.
 
+use crate::ties::{Test, TESTS};
 use std::fmt;
 
 /// Counts of one kind of case.
@@ -9,12 +10,19 @@ pub struct Tally {
     pub cases: u64,
     /// Calls compared, by the number they gave.
     pub numbers: [u64; 9],
+    /// Ties drawn, by the test.
+    pub ties: [u64; TESTS],
 }
 
 impl Tally {
     /// Notes a call by the number it gave.
     pub fn note(&mut self, number: u8) {
         self.numbers[usize::from(number)] += 1;
+    }
+
+    /// Notes a tie that was drawn.
+    pub fn note_tie(&mut self, test: Test) {
+        self.ties[test as usize] += 1;
     }
 
     /// Calls compared.
@@ -33,6 +41,13 @@ impl fmt::Display for Tally {
                 _ => format!("{count} refused {number}"),
             })
             .collect();
-        write!(out, " {}", words.join(", "))
+        write!(out, " {}", words.join(", "))?;
+        match self.ties {
+            [0, 0, 0, 0] => Ok(()),
+            [inside, apart, no_axis, across] => write!(
+                out,
+                "; ties: {inside} inside, {apart} apart, {no_axis} apart without an axis, {across} across"
+            ),
+        }
     }
 }

@@ -1,7 +1,7 @@
 //! Jobs in which one cell meets one of the tests of a strip with equality: a
 //! whole number decides there, and rounding or a wrong sign of comparison shows.
 
-use crate::edges::{numbers_mut, Ground, SHAPES};
+use crate::edges::{numbers_mut, Ground, Shape, SHAPES};
 use crate::jobs::tuned_job;
 use crate::numbers::{lay, Numbers, COUNT, GRAIN, M, N, REACH, X, Y};
 use crate::random::Random;
@@ -21,11 +21,42 @@ const TRIANGLES: [[i64; 3]; 8] = [
 ];
 
 /// The test that is met with equality.
-#[derive(Clone, Copy)]
-enum Test {
+#[derive(Clone, Copy, Debug)]
+pub enum Test {
     Inside,
     Apart,
+    /// The same of a strip whose axis is (0, 0), so that nothing lies across.
+    ApartNoAxis,
     Across,
+}
+
+/// How many tests there are.
+pub const TESTS: usize = 4;
+
+impl Test {
+    const ALL: [Test; TESTS] = [Test::Inside, Test::Apart, Test::ApartNoAxis, Test::Across];
+
+    /// Whether the letter may stand at the cell. The strip is the whole edge's:
+    /// if it is away, so is the edge, and if not, some of the edge is nearer
+    /// than the reach to some of the cell.
+    pub fn allows(self, letter: char) -> bool {
+        (letter == 'C') != matches!(self, Test::Inside)
+    }
+
+    /// Shapes of edges for it.
+    fn shapes(self) -> &'static [Shape] {
+        match self {
+            Test::ApartNoAxis => &[Shape::Spot, Shape::Back],
+            _ => &SHAPES,
+        }
+    }
+}
+
+/// Where the equality is: the test and the cell, counted as in the map.
+#[derive(Clone, Copy)]
+pub struct Tie {
+    pub test: Test,
+    pub index: usize,
 }
 
 /// A cell: its lower left corner and M.
@@ -52,7 +83,9 @@ impl Cell {
         let size = |x: i64, y: i64| root(x * x + y * y);
         let reach = match test {
             Test::Inside => size(wx.abs() + around[0], wy.abs() + around[1])?,
-            Test::Apart => size((wx.abs() - around[0]).max(0), (wy.abs() - around[1]).max(0))?,
+            Test::Apart | Test::ApartNoAxis => {
+                size((wx.abs() - around[0]).max(0), (wy.abs() - around[1]).max(0))?
+            }
             Test::Across => {
                 let [p, q] = strip.axis;
                 let [a, b] = strip.half_box.map(|half| half + self.half_side());
@@ -73,13 +106,13 @@ fn root(square: i64) -> Option<i64> {
 }
 
 /// A job with such a cell. In the few cases where none is found it is some
-/// other job.
-pub fn tied_job(random: &mut Random) -> Numbers {
-    let test = random.choose(&[Test::Inside, Test::Apart, Test::Across]);
+/// other job, and has no tie.
+pub fn tied_job(random: &mut Random) -> (Numbers, Option<Tie>) {
+    let test = random.choose(&Test::ALL);
     for _ in 0..4_000 {
         let size = random.choose(&[2, 5, 12, 30]);
         let middle = [0, 0];
-        let shape = random.choose(&SHAPES);
+        let shape = random.choose(test.shapes());
         let line = random.once_in(2);
         let edge = Ground { middle, size }.edge(random, shape, line);
         let strip = Strip::of(&edge, Piece::WHOLE);
@@ -87,10 +120,11 @@ pub fn tied_job(random: &mut Random) -> Numbers {
             continue;
         };
         if let Some(reach) = cell.tied_reach(&strip, test) {
-            return job_around(random, edge, &strip, cell, reach as i32);
+            let (job, index) = job_around(random, edge, &strip, cell, reach as i32);
+            return (job, Some(Tie { test, index }));
         }
     }
-    tuned_job(random, 4)
+    (tuned_job(random, 4), None)
 }
 
 /// A cell that may do. For the tests of a distance it is laid so that the
@@ -102,7 +136,7 @@ fn some_cell(random: &mut Random, strip: &Strip, test: Test) -> Option<Cell> {
     let side = match test {
         Test::Across => return Some(cell),
         Test::Inside => -1,
-        Test::Apart => 1,
+        Test::Apart | Test::ApartNoAxis => 1,
     };
     let triangle = random.choose(&TRIANGLES);
     let scale = i64::from(random.between(1, 6));
@@ -119,15 +153,15 @@ fn some_cell(random: &mut Random, strip: &Strip, test: Test) -> Option<Cell> {
     Some(Cell { corner, power })
 }
 
-/// The job of one edge whose plate has this cell. Most often the edge is a leaf
-/// at once; all is moved somewhere.
+/// The job of one edge whose plate has this cell, and where in the map it is.
+/// Most often the edge is a leaf at once; all is moved somewhere.
 fn job_around(
     random: &mut Random,
     mut edge: Edge,
     strip: &Strip,
     cell: Cell,
     reach: i32,
-) -> Numbers {
+) -> (Numbers, usize) {
     let mut job = [0; clearance::JOB_NUMBERS];
     let [width, height] = strip.extent();
     let leaf_grain = (width.max(height) as i32 + 15) / 16;
@@ -138,14 +172,17 @@ fn job_around(
     job[M] = cell.power;
     job[N] = cell.power + random.between(0, 4);
     let far = random.choose(&[0, 100, 990_000]);
+    let side = 1 << (job[N] - job[M]);
+    let mut index = 0;
     for (c, corner) in [X, Y].into_iter().enumerate() {
         let moved = random.between(-far, far);
-        let before = random.between(0, (1 << (job[N] - job[M])) - 1) << job[M];
-        job[corner] = cell.corner[c] as i32 - before + moved;
+        let before = random.between(0, side - 1);
+        job[corner] = cell.corner[c] as i32 - (before << job[M]) + moved;
+        index += before as usize * if c == 0 { 1 } else { side as usize };
         for number in numbers_mut(&mut edge).iter_mut().skip(c).step_by(2) {
             *number += moved;
         }
     }
     lay(&mut job, 0, &edge);
-    job
+    (job, index)
 }

@@ -19,12 +19,12 @@ SHEET = b"""(job
 
 MAP = b"""(map 8
 (row CCCCCCCC)
-(row CCCDDCCC)
+(row CCCCCCCC)
 (row CCDDDDCC)
-(row CDDIIDDC)
-(row CDDIIDDC)
+(row CCDIIDCC)
+(row CCDIIDCC)
 (row CCDDDDCC)
-(row CCCDDCCC)
+(row CCCCCCCC)
 (row CCCCCCCC)
 )
 """

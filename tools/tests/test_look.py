@@ -51,7 +51,7 @@ class Pictures(unittest.TestCase):
     def test_runs_are_merged(self):
         root = drawn(SHEET, MAP)
         rectangles = [rect for group in by_id(root, "cells") for rect in group]
-        self.assertEqual(len(rectangles), 1 + 3 + 3 + 5 + 5 + 3 + 3 + 1)
+        self.assertEqual(len(rectangles), 1 + 1 + 3 + 5 + 5 + 3 + 1 + 1)
 
     def test_every_example(self):
         for path in EXAMPLES:
@@ -101,9 +101,13 @@ class Legend(unittest.TestCase):
 
     def test_shares_of_the_sample(self):
         words = self.words(drawn(SHEET, MAP))
-        self.assertEqual(words[:3], ["clear", "62.5 %", "0.0160 mm²"])
-        self.assertEqual(words[3:6], ["doubtful", "31.3 %", "0.0080 mm²"])
+        self.assertEqual(words[:3], ["clear", "75.0 %", "0.0192 mm²"])
+        self.assertEqual(words[3:6], ["doubtful", "18.8 %", "0.0048 mm²"])
         self.assertEqual(words[6:9], ["inside", "6.2 %", "0.0016 mm²"])
+
+    def test_what_the_letters_mean(self):
+        words = self.words(drawn(SHEET, MAP))
+        self.assertEqual(words[9:], ["outline", "clear: at least the reach away", "inside: closer than the reach"])
 
     def test_shares_add_up(self):
         for numbers in itertools.product((0, 1, 2, 5, 333, 65_535), repeat=3):

@@ -173,16 +173,16 @@ class Messages(unittest.TestCase):
 class ReadingMaps(unittest.TestCase):
     def test_the_sample(self):
         rows = sheets.read_map(MAP)
-        self.assertEqual((len(rows), rows[1], rows[3]), (8, "CCCDDCCC", "CDDIIDDC"))
+        self.assertEqual((len(rows), rows[1], rows[3]), (8, "CCCCCCCC", "CCDIIDCC"))
 
     def test_breaks(self):
         for old, new, place in [
             (b"(map 8", b"(map 7", (1, 6)),
             (b"(map 8", b"(map 512", (1, 6)),
             (b"(map 8", b"(mop 8", (1, 3)),
-            (b"(row CCCDDCCC", b"(row CCCDDCC", (3, 13)),
-            (b"(row CCCDDCCC", b"(row CCCDDCCCC", (3, 14)),
-            (b"(row CCCDDCCC", b"(row CCCDXCCC", (3, 10)),
+            (b"(row CCDDDDCC", b"(row CCDDDDC", (4, 13)),
+            (b"(row CCDDDDCC", b"(row CCDDDDCCC", (4, 14)),
+            (b"(row CCDDDDCC", b"(row CCDDXDCC", (4, 10)),
             (b")\n)\n", b")\n", (10, 1)),
             (b")\n)\n", b")\n(row CCCCCCCC)\n)\n", (10, 1)),
             (b")\n)\n", b")\n)\n)\n", (11, 1)),

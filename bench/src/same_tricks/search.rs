@@ -13,14 +13,15 @@ pub enum Answer {
 /// Above every root of a legal job's axis, and its square fits 64 bits.
 const ROOT_CAP: i64 = 1 << 30;
 
-/// Whether cross > r·L, with L the least whole number whose square is at least
-/// `square`. That is L ≤ k with k = (cross - 1) / r, so square ≤ k². No L is
-/// below `low`, which settles most cases without the division.
+/// Whether cross ≥ r·L, with L the least whole number whose square is at least
+/// `square`. That is L ≤ k with k = cross / r, so square ≤ k². No L is below
+/// `low`, which settles most cases without the division. Without an axis, where
+/// the square is 0, nothing lies across.
 fn is_beyond(cross: i64, r: i64, low: i64, square: i64) -> bool {
-    if cross <= r * low {
+    if cross < r * low || square == 0 {
         return false;
     }
-    let k = ((cross - 1) / r).min(ROOT_CAP);
+    let k = (cross / r).min(ROOT_CAP);
     square <= k * k
 }
 
@@ -35,7 +36,7 @@ fn own_answer(node: &[i32; NUMBERS_A_NODE], x: i64, y: i64, s: i64, r: i64) -> A
     }
     let gap_x = (wx.abs() - p.abs() - a).max(0);
     let gap_y = (wy.abs() - q.abs() - b).max(0);
-    if gap_x * gap_x + gap_y * gap_y > r * r {
+    if gap_x * gap_x + gap_y * gap_y >= r * r {
         return Answer::Away;
     }
     let cross = (wx * q - wy * p).abs() - a * q.abs() - b * p.abs();

@@ -21,7 +21,7 @@
 //! let side = 1 << (job.n - job.m);
 //! let rows: Vec<&[u8]> = cells.chunks(side).take(side).collect();
 //! assert_eq!(rows[2], b"CCDDDDCC");
-//! assert_eq!(rows[3], b"CDDIIDDC");
+//! assert_eq!(rows[3], b"CCDIIDCC");
 //!
 //! let nearest = clearance::point(&job, 3, 4, &store)?;
 //! assert_eq!((nearest.lo, nearest.hi, nearest.edge), (6400, 6400, 0));
