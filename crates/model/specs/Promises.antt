@@ -107,7 +107,7 @@ ExactSome = (O C : Points) (R : ℤ) → ((v : Verdict) → Exact O C R v → �
 abbrev pub Shows : ℕ → (Job → Points → Type 0) → Type 0
 Shows b Meant = (j : Job) (cells : List ℕ) → MapHolds j cells → (i k : ℕ) → i < columns j → k < columns j → byteAt j cells i k ≡ b → Meant j (cellIn j i k)
 
--- C: the whole cell is farther than the reach from the outline
+-- C: the whole cell is at least the reach away from the outline
 abbrev pub ClearByte : Type 0
 ClearByte = Shows 67 (λ j C. Clear (Outline (outline j)) C (j .reach))
 

@@ -1,5 +1,5 @@
 -- A number is at least r times a root where the square is at most that of a quotient. Assumes nothing.
-use mathlib.Core.Path.{_≡_, refl, sym, ap, subst}
+use mathlib.Core.Path.{_≡_, refl, sym, subst}
 use mathlib.Core.Bool.{Bool, true, false, cond}
 use Prim.Native.Nat.{ℕ, suc, _+_, _*_, _/_, _≤_, _<_}
 use native.Mathlib.Nat.{le-trans, mul-le-mul, le-refl, div-add-mod', mod-lt}
@@ -81,7 +81,7 @@ capped-size j = go (ltb j 1073741824) refl
     go true e = omega (arith, ltb-true j 1073741824 e)
     go false e = omega arith
 
--- what the quotient's square tells of x, once low has let it pass and m is not 0
+-- what the quotient's square tells of x, once low has let it pass
 pub record Asked (x : ℤ) (d m : ℕ) : Type 0 where
   pub size : natAbs (capBy (quotZ x (pos d))) ≤ 1073741824
   pub answer : leZ (pos m) (capBy (quotZ x (pos d)) *ℤ capBy (quotZ x (pos d))) ≡ leZ (pos d *ℤ pos (root m)) x

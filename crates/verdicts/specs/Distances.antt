@@ -2,11 +2,10 @@
 use mathlib.Core.Path.{_≡_}
 use mathlib.Core.Logic.{⊎-elim}
 use lib.IntN.{ℤ, pos, negℤ, _+ℤ_, _-ℤ_, _*ℤ_}
-use lib.Signed.{clashℤ}
 use Rattle.integers.specs.RingSolver.{_^ℤ_, name₂, name₃, name₄, name₅, name₆, name₇, name₈, name₉, reify, close, ok}
 use Rattle.integers.specs.Order.{_≼_, _≺_, num, _⊞_, _⊠_, sq, gap, gap⁺}
 use Rattle.integers.specs.Omega.{zarith}
-use Rattle.integers.specs.Inequalities.{from, _&_, weak, _⊠⁺_, ≼-trans, ≼-*l-off, sq-≼, by-contra, split≼}
+use Rattle.integers.specs.Inequalities.{from, _&_, weak, _⊠⁺_, ≼-trans, ≼-*l-off, sq-≼, by-contra}
 use Rattle.integers.specs.Absolute.{absℤ, abs-is, abs-sq, ≼-abs, neg≼-abs}
 use Rattle.integers.specs.Within.{Within, own-abs, times, cancel, bound-nonneg}
 use Rattle.verdicts.specs.Apart.{Spread}
