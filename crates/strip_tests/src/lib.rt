@@ -60,7 +60,8 @@ fn no_axis(pp: i64) -> bool
 }
 
 // cross >= r * L, with L the root of pp rounded up: just where pp is at most the square of cross / r. low is a whole number up to L: most
-// calls end at it, without a division. Across an axis (0, 0) no cell is away
+// calls end at it, without a division. Across an axis (0, 0) no cell is away; that is asked behind the division, which keeps pp off the
+// way of most calls
 fn beyond(cross: i64, r: i64, low: i64, pp: i64) -> bool
     requires sizes { ⌜ CrossSized cross r low pp ⌝ }
     ensures told { λ b. ⌜ b ≡ isBeyond cross r pp ⌝ }
@@ -68,10 +69,10 @@ fn beyond(cross: i64, r: i64, low: i64, pp: i64) -> bool
     if cross < r * low {
         return false;
     }
+    let k = cap(cross / r);
     if no_axis(pp) {
         return false;
     }
-    let k = cap(cross / r);
     pp <= k * k
 }
 

@@ -42,13 +42,17 @@ second-fails false b e = sym e
 first-holds : (a b t : Bool) → a ≡ false → t ≡ b → t ≡ (not a && b)
 first-holds a b t e f = rw (e, f)
 
-known : (c : tie.Else2) → Asked (c .before .before .before .args .cross) (natAbs (c .before .before .before .args .r)) (natAbs (c .before .before .before .args .pp))
+known : (c : tie.Else1) → Asked (c .before .args .cross) (natAbs (c .before .args .r)) (natAbs (c .before .args .pp))
 known c =
-    let s = c .before .before .before in
-    asked (s .args .cross) (natAbs (s .args .r)) (natAbs (s .args .pp)) (natAbs (s .args .low)) (s .pre .cross-reach .r-above) (omega (arith, s .pre .pp-size)) (test-lt (cross s) (times (r s) (low s) tt) (c .before .before .if1 .left))
+    let s = c .before in
+    asked (s .args .cross) (natAbs (s .args .r)) (natAbs (s .args .pp)) (natAbs (s .args .low)) (s .pre .cross-reach .r-above) (omega (arith, s .pre .pp-size)) (test-lt (cross s) (times (r s) (low s) tt) (c .if1 .left))
 
-k : (c : tie.After-cap) → Made (c .cap .result) (capBy (quotZ (c .before .before .before .before .args .cross) (pos (natAbs (c .before .before .before .before .args .r))))) 1073741824
-k c = let s = c .before .before .before .before in called (rw (back (over (cross s) (r s) tt)) at (c .cap .ensures)) (known (c .before) .size) tt
+k : (c : tie.After-cap) → Made (c .cap .result) (capBy (quotZ (c .before .before .args .cross) (pos (natAbs (c .before .before .args .r))))) 1073741824
+k c = let s = c .before .before in called (rw (back (over (cross s) (r s) tt)) at (c .cap .ensures)) (known (c .before) .size) tt
+
+-- what was said of the axis
+said : (c : tie.After-no-axis) → c .no-axis .result ≡ isZero (pos (natAbs (c .before .before .before .args .pp)))
+said c = rw (back (pp (c .before .before .before))) at (c .no-axis .ensures)
 
 mul-if1 : tie.Need-mul-if1
 mul-if1 c = (times (r c) (low c) tt) .fits
@@ -58,29 +62,25 @@ returns c =
     let s = c .before in
     as-came s (root (natAbs (s .args .pp))) (second-fails (isZero (pos (natAbs (s .args .pp)))) _ (refused (s .args .cross) (natAbs (s .args .r)) (natAbs (s .args .pp)) (natAbs (s .args .low)) (s .pre .low-under) (test-lt (cross s) (times (r s) (low s) tt) (c .if1 .taken))))
 
--- what was said of the axis
-said : (c : tie.After-no-axis) → c .no-axis .result ≡ isZero (pos (natAbs (c .before .before .args .pp)))
-said c = rw (back (pp (c .before .before))) at (c .no-axis .ensures)
+div-cap : tie.Need-div-cap
+div-cap c = let s = c .before in (above-zero (r s) (s .pre .cross-reach .r-above), (over (cross s) (r s) tt) .fits)
+
+cap-requires : tie.Need-cap-requires
+cap-requires c κs = search needs
 
 no-axis-requires : tie.Need-no-axis-requires
 no-axis-requires c κs = search needs
 
 returns-2 : tie.Need-returns-2
-returns-2 c = let s = c .before .before .before in as-came s (root (natAbs (s .args .pp))) (first-fails _ _ (sym (said (c .before)) ∙ c .if2 .taken))
-
-div-cap : tie.Need-div-cap
-div-cap c = let s = c .before .before .before in (above-zero (r s) (s .pre .cross-reach .r-above), (over (cross s) (r s) tt) .fits)
-
-cap-requires : tie.Need-cap-requires
-cap-requires c κs = search needs
+returns-2 c = let s = c .before .before .before .before in as-came s (root (natAbs (s .args .pp))) (first-fails _ _ (sym (said (c .before)) ∙ c .if2 .taken))
 
 mul-result : tie.Need-mul-result
-mul-result c = (times (k c) (k c) tt) .fits
+mul-result c = (times (k (c .before .before)) (k (c .before .before)) tt) .fits
 
 returns-3 : tie.Need-returns-3
 returns-3 c =
     let s = c .before .before .before .before in
-    as-came s (root (natAbs (s .args .pp))) (first-holds _ _ _ (sym (said (c .before .before)) ∙ c .before .if2 .left) (rw (back (pp s), back (times (k c) (k c) tt)) (known (c .before) .answer)))
+    as-came s (root (natAbs (s .args .pp))) (first-holds _ _ _ (sym (said (c .before)) ∙ c .if2 .left) (rw (back (pp s), back (times (k (c .before .before)) (k (c .before .before)) tt)) (known (c .before .before .before) .answer)))
 
 pub beyond-spec : {M : Type 1} → statement M
-beyond-spec = tie.close (tie.spec mul-if1 returns no-axis-requires returns-2 div-cap cap-requires mul-result returns-3)
+beyond-spec = tie.close (tie.spec mul-if1 returns div-cap cap-requires no-axis-requires returns-2 mul-result returns-3)
