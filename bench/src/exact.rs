@@ -1,7 +1,8 @@
 //! Which letters of a map are wrong, found without strips or trees. Nothing is
 //! counted that is not certain:
 //! - a C is wrong if an outline point at some k/4096 is nearer than the reach
-//!   to the closed cell. That is settled in whole numbers.
+//!   to the closed cell; one at the reach exactly is no fault. That is settled in
+//!   whole numbers.
 //! - an I is wrong if some point of the cell has no outline point nearer than
 //!   the reach. That is settled in floats with a margin: all numbers are below
 //!   2^22, so a distance is off by less than 2^-20, and `SLACK` is above that.
@@ -27,7 +28,8 @@ const SLACK: f64 = 1e-5;
 pub struct Wrong {
     /// Called clear though the outline comes nearer than the reach.
     pub clear: usize,
-    /// Called inside though some point of the cell is out of reach.
+    /// Called inside though some point of the cell has no outline point nearer
+    /// than the reach.
     pub inside: usize,
 }
 
@@ -221,7 +223,8 @@ fn piece_comes_near(curve: &Curve, piece: Piece, cell: &Cell, reach: i32) -> boo
             .any(|half| piece_comes_near(curve, half, cell, reach))
 }
 
-/// Whether some point of the cell is certainly out of reach of all the outline.
+/// Whether some point of the cell is certainly farther than the reach from all
+/// the outline.
 fn is_partly_out(job: &Job, curves: &[Curve], cell: &Cell) -> bool {
     cell.spots().any(|spot| {
         curves
