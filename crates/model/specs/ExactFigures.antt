@@ -11,7 +11,7 @@ use Rattle.model.specs.Fractions.{Frac, _<ᶠ_, whole, Point, Closer, At
 use Rattle.model.specs.Plates.{Verdict, clear, within, doubtful, mixed, letter}
 use Rattle.model.specs.Exact.{Points, Clear, Inside, Exact, R-E, R+E, NoCloser, SomeNear, Demand3}
 use Rattle.model.specs.FigureTables.{AllHold, _and_}
-use Rattle.model.specs.PointFigures.{over, spot, Is}
+use Rattle.model.specs.PointFigures.{over, point, spot, Is}
 
 -- one point and no other; one of two
 abbrev pub only : Point → Points
@@ -25,18 +25,24 @@ pub data Figure : Type 0 where
   band : ℤ → ℤ → ℕ → ℤ → ℤ → Figure
   -- whether the verdict is exact, where the outline is the first point, the cell the two others and R the reach
   exact : Point → Point → Point → ℤ → Verdict → Bool → Figure
+  -- the same, where the outline is the first two points
+  between : Point → Point → Point → Point → ℤ → Verdict → Bool → Figure
   -- whether the cell, one point here, is no closer than l, and whether it has a point at l
   no-closer : Point → Point → Frac → Bool → Figure
   some-near : Point → Point → Frac → Bool → Figure
-  -- whether a map may have the verdict x there, at grain T and cells of side 2^M
-  allowed : Point → Point → ℤ → ℤ → ℕ → Verdict → Bool → Figure
+  -- both, where the outline is the first two points and the cell the two others
+  bands : Point → Point → Point → Point → Frac → Bool → Bool → Figure
+  -- whether a map may have the verdict x where the outline is the first point and the cell the two others, at grain T and cells of side 2^M
+  allowed : Point → Point → Point → ℤ → ℤ → ℕ → Verdict → Bool → Figure
 
 abbrev pub Holds : Figure → Type 0
 Holds (band R T M a b) = (R-E R T M .top ≡ a) × (R-E R T M .low ≡ pos 2) × (R+E R T M .top ≡ b) × (R+E R T M .low ≡ pos 2)
 Holds (exact p q q′ R v t) = Is t (Exact (only p) (pair q q′) R v)
+Holds (between p p′ q q′ R v t) = Is t (Exact (pair p p′) (pair q q′) R v)
 Holds (no-closer p q l t) = Is t (NoCloser (only p) (pair q q) l)
 Holds (some-near p q l t) = Is t (SomeNear (only p) (pair q q) l)
-Holds (allowed p q R T M x t) = Is t (Demand3 (only p) (pair q q) R T M x)
+Holds (bands p p′ q q′ l a b) = Is a (NoCloser (pair p p′) (pair q q′) l) × Is b (SomeNear (pair p p′) (pair q q′) l)
+Holds (allowed p q q′ R T M x t) = Is t (Demand3 (only p) (pair q q′) R T M x)
 
 -- ---- the doubtful band
 abbrev pub bandFigures : List Figure
@@ -60,12 +66,24 @@ five = spot (pos 3) (pos 4)
 abbrev pub ten : Point
 ten = spot (pos 6) (pos 8)
 
+-- at a distance just below 5
+abbrev pub below : Point
+below = point (whole (pos 3)) (over (pos 3999) 999)
+
+-- two more on the same line, 5 apart
+abbrev pub fifteen : Point
+fifteen = spot (pos 9) (pos 12)
+
+abbrev pub twenty : Point
+twenty = spot (pos 12) (pos 16)
+
 abbrev pub exactFigures : List Figure
 exactFigures =
     -- a cell with a point on either side of the reach
     exact O five ten (pos 6) mixed true
     ∷ exact O five ten (pos 6) clear false
     ∷ exact O five ten (pos 6) within false
+    ∷ exact O five ten (pos 6) doubtful false
     -- a reach below the distance, at it and above it: at the reach exactly a cell is clear
     ∷ exact O five five (pos 4) clear true
     ∷ exact O five five (pos 4) within false
@@ -73,28 +91,44 @@ exactFigures =
     ∷ exact O five five (pos 5) clear true
     ∷ exact O five five (pos 5) within false
     ∷ exact O five five (pos 5) mixed false
-    ∷ exact O five five (pos 5) doubtful false
     ∷ exact O five five (pos 6) clear false
     ∷ exact O five five (pos 6) within true
     ∷ exact O five five (pos 6) mixed false
+    ∷ exact O below below (pos 5) clear false
+    ∷ exact O below below (pos 5) within true
+    -- each point of the cell has a point of the outline of its own closer than the reach, and another that is not
+    ∷ between O twenty five fifteen (pos 6) clear false
+    ∷ between O twenty five fifteen (pos 6) within true
     -- at 5 and on either side; a length below 0 asks nothing, and 0 asks what is so
     ∷ no-closer O five (whole (pos 5)) true
-    ∷ no-closer O five (over (pos 11) 1) false
+    ∷ no-closer O five (over (pos 5001) 999) false
     ∷ no-closer O five (whole (negsuc 5)) true
     ∷ no-closer O O (whole (pos 0)) true
+    ∷ no-closer O O (over (pos 1) 999) false
+    ∷ no-closer O O (over (negsuc 0) 999) true
     ∷ some-near O five (whole (pos 5)) true
-    ∷ some-near O five (over (pos 9) 1) false
-    -- grain 1 and cells of side 1: E = 9/2
-    ∷ allowed O five (pos 5) (pos 1) 0 doubtful true
-    ∷ allowed O five (pos 5) (pos 1) 0 mixed false
-    ∷ allowed O five (pos 5) (pos 1) 0 clear true
-    ∷ allowed O five (pos 5) (pos 1) 0 within false
-    ∷ allowed O five (pos 6) (pos 1) 0 clear false
-    ∷ allowed O five (pos 10) (pos 1) 0 doubtful false
-    ∷ allowed O ten (pos 5) (pos 1) 0 doubtful false
+    ∷ some-near O five (over (pos 4999) 999) false
+    ∷ bands O twenty five fifteen (whole (pos 6)) false true
     ∷ []
 
--- ---- the statement
+-- ---- what a map may say
+abbrev pub allowedFigures : List Figure
+allowedFigures =
+    -- grain 1 and cells of side 1: E = 9/2
+    allowed O five five (pos 5) (pos 1) 0 doubtful true
+    ∷ allowed O five five (pos 10) (pos 1) 0 doubtful false
+    ∷ allowed O five ten (pos 5) (pos 1) 0 doubtful false
+    ∷ allowed O five ten (pos 6) (pos 1) 0 mixed false
+    -- grain 2 and cells of side 2: E = 9
+    ∷ allowed O five five (pos 14) (pos 2) 1 doubtful true
+    ∷ allowed O ten ten (pos 1) (pos 2) 1 doubtful true
+    ∷ allowed O five five (pos 5) (pos 2) 1 clear true
+    ∷ allowed O five five (pos 5) (pos 2) 1 within false
+    ∷ allowed O five five (pos 6) (pos 2) 1 clear false
+    ∷ allowed O five five (pos 6) (pos 2) 1 within true
+    ∷ []
+
+-- ---- the statements
 -- what is asked of all points is asked of these, the outline's one and the cell's two. The lengths are left to the definitions
 each : (q q′ : Point) (B : Points) → B q → B q′ → (Q : Point) → pair q q′ Q → B Q
 each q q′ B h k Q (inl e) = subst B (sym e) h
@@ -130,59 +164,92 @@ exact-holds =
     ((λ h. h five (inl refl) O refl .least .le), (λ h. nearer O ten _ (h ten (inr refl)) .closer .lt))
     and (λ h. h five (inl refl) O refl .least .le)
     and (λ h. nearer O ten _ (h ten (inr refl)) .closer .lt)
-    and far O five five _ (record { least = record { le = tt } }) (record { least = record { le = tt } })
-    and (λ h. nearer O five _ (h five (inr refl)) .closer .lt)
-    and (λ h. h .0 (far O five five _ (record { least = record { le = tt } }) (record { least = record { le = tt } })))
-    and far O five five _ (record { least = record { le = tt } }) (record { least = record { le = tt } })
-    and (λ h. nearer O five _ (h five (inr refl)) .closer .lt)
-    and (λ h. h .0 (far O five five _ (record { least = record { le = tt } }) (record { least = record { le = tt } })))
     and (λ h. h)
+    and far O five five _ (record { least = record { le = tt } }) (record { least = record { le = tt } })
+    and (λ h. nearer O five _ (h five (inr refl)) .closer .lt)
+    and (λ h. h .0 (far O five five _ (record { least = record { le = tt } }) (record { least = record { le = tt } })))
+    and far O five five _ (record { least = record { le = tt } }) (record { least = record { le = tt } })
+    and (λ h. nearer O five _ (h five (inr refl)) .closer .lt)
+    and (λ h. h .0 (far O five five _ (record { least = record { le = tt } }) (record { least = record { le = tt } })))
     and (λ h. h five (inl refl) O refl .least .le)
     and near O five five _ (record { closer = record { lt = tt } }) (record { closer = record { lt = tt } })
     and (λ h. h .1 (near O five five _ (record { closer = record { lt = tt } }) (record { closer = record { lt = tt } })))
+    and (λ h. h below (inl refl) O refl .least .le)
+    and near O below below _ (record { closer = record { lt = tt } }) (record { closer = record { lt = tt } })
+    and (λ h. h five (inl refl) O (inl refl) .least .le)
+    and each five fifteen (λ Q. (P : Point) × pair O twenty P × Closer P Q (whole (pos 6))) (O, inl refl, record { closer = record { lt = tt } }) (twenty, inr refl, record { closer = record { lt = tt } })
     and off O five _ (inr (record { least = record { le = tt } }))
     and (λ h. elim (h five (inl refl) O refl) [ inl b ↦ b .lt | inr b ↦ b .least .le ])
     and off O five _ (inl (record { lt = tt }))
     and off O O _ (inr (record { least = record { le = tt } }))
+    and (λ h. elim (h O (inl refl) O refl) [ inl b ↦ b .lt | inr b ↦ b .least .le ])
+    and off O O _ (inl (record { lt = tt }))
     and by O five _ (record { most = record { le = tt } })
     and (λ h. within-most O five _ (h five (inl refl)) .most .le)
-    and doubted
+    and ((λ h. elim (h five (inl refl) O (inl refl)) [ inl b ↦ b .lt | inr b ↦ b .least .le ]), each five fifteen (λ Q. (P : Point) × pair O twenty P × AtMost P Q (whole (pos 6))) (O, inl refl, record { most = record { le = tt } }) (twenty, inr refl, record { most = record { le = tt } }))
+    and tt
+
+-- in the band a map may doubt, whatever the exact verdict is
+doubted : (p q : Point) (R G : ℤ) (M : ℕ) → NoCloser (only p) (pair q q) (R-E R G M) → SomeNear (only p) (pair q q) (R+E R G M) → Demand3 (only p) (pair q q) R G M doubtful
+doubted p q R G M f n = record {
+  not-mixed = unlike doubtful mixed tt;
+  if-clear = λ e. absurd (unlike doubtful clear tt e);
+  if-inside = λ e. absurd (unlike doubtful within tt e);
+  if-doubtful = λ e. (f, n);
+  agrees = agreed;
+}
+  where
+    agreed : (v : Verdict) → Exact (only p) (pair q q) R v → (doubtful ≡ v) ↔ (doubtful ≡ doubtful → ⊥)
+    agreed clear h = ((λ e. absurd (unlike doubtful clear tt e)), (λ f. absurd (f refl)))
+    agreed within h = ((λ e. absurd (unlike doubtful within tt e)), (λ f. absurd (f refl)))
+    agreed doubtful h = absurd h
+    agreed mixed h = ((λ e. absurd (unlike doubtful mixed tt e)), (λ f. absurd (f refl)))
+
+-- where the exact verdict is clear it may say so
+cleared : Demand3 (only O) (pair five five) (pos 5) (pos 2) 1 clear
+unfolding Clear Inside
+cleared = record {
+  not-mixed = unlike clear mixed tt;
+  if-clear = λ e. far O five five _ (record { least = record { le = tt } }) (record { least = record { le = tt } });
+  if-inside = λ e. absurd (unlike clear within tt e);
+  if-doubtful = λ e. absurd (unlike clear doubtful tt e);
+  agrees = agreed;
+}
+  where
+    agreed : (v : Verdict) → Exact (only O) (pair five five) (pos 5) v → (clear ≡ v) ↔ (clear ≡ doubtful → ⊥)
+    agreed clear h = ((λ e. unlike clear doubtful tt), (λ f. refl))
+    agreed within h = absurd (nearer O five _ (h five (inr refl)) .closer .lt)
+    agreed doubtful h = absurd h
+    agreed mixed h = absurd (h .0 (far O five five _ (record { least = record { le = tt } }) (record { least = record { le = tt } })))
+
+-- and so of inside
+entered : Demand3 (only O) (pair five five) (pos 6) (pos 2) 1 within
+unfolding Clear Inside
+entered = record {
+  not-mixed = unlike within mixed tt;
+  if-clear = λ e. absurd (unlike within clear tt e);
+  if-inside = λ e. near O five five _ (record { closer = record { lt = tt } }) (record { closer = record { lt = tt } });
+  if-doubtful = λ e. absurd (unlike within doubtful tt e);
+  agrees = agreed;
+}
+  where
+    agreed : (v : Verdict) → Exact (only O) (pair five five) (pos 6) v → (within ≡ v) ↔ (within ≡ doubtful → ⊥)
+    agreed clear h = absurd (h five (inl refl) O refl .least .le)
+    agreed within h = ((λ e. unlike within doubtful tt), (λ f. refl))
+    agreed doubtful h = absurd h
+    agreed mixed h = absurd (h .1 (near O five five _ (record { closer = record { lt = tt } }) (record { closer = record { lt = tt } })))
+
+pub allowed-holds : AllHold Holds allowedFigures
+unfolding Clear Inside NoCloser SomeNear
+allowed-holds =
+    doubted O five (pos 5) (pos 1) 0 (off O five _ (inr (record { least = record { le = tt } }))) (by O five _ (record { most = record { le = tt } }))
+    and (λ h. elim (h .if-doubtful refl .0 five (inl refl) O refl) [ inl b ↦ b .lt | inr b ↦ b .least .le ])
+    and (λ h. within-most O ten _ (h .if-doubtful refl .1 ten (inr refl)) .most .le)
     and (λ h. h .not-mixed refl)
+    and doubted O five (pos 14) (pos 2) 1 (off O five _ (inr (record { least = record { le = tt } }))) (by O five _ (record { most = record { le = tt } }))
+    and doubted O ten (pos 1) (pos 2) 1 (off O ten _ (inl (record { lt = tt }))) (by O ten _ (record { most = record { le = tt } }))
     and cleared
     and (λ h. nearer O five _ (h .if-inside refl five (inr refl)) .closer .lt)
     and (λ h. h .if-clear refl five (inl refl) O refl .least .le)
-    and (λ h. elim (h .if-doubtful refl .0 five (inl refl) O refl) [ inl b ↦ b .lt | inr b ↦ b .least .le ])
-    and (λ h. within-most O ten _ (h .if-doubtful refl .1 ten (inl refl)) .most .le)
+    and entered
     and tt
-  where
-    -- where the exact verdict is clear a map may doubt
-    doubted : Demand3 (only O) (pair five five) (pos 5) (pos 1) 0 doubtful
-    doubted = record {
-      not-mixed = unlike doubtful mixed tt;
-      if-clear = λ e. absurd (unlike doubtful clear tt e);
-      if-inside = λ e. absurd (unlike doubtful within tt e);
-      if-doubtful = λ e. (off O five _ (inr (record { least = record { le = tt } })), by O five _ (record { most = record { le = tt } }));
-      agrees = agreed;
-    }
-      where
-        agreed : (v : Verdict) → Exact (only O) (pair five five) (pos 5) v → (doubtful ≡ v) ↔ (doubtful ≡ doubtful → ⊥)
-        agreed clear h = ((λ e. absurd (unlike doubtful clear tt e)), (λ f. absurd (f refl)))
-        agreed within h = absurd (nearer O five _ (h five (inr refl)) .closer .lt)
-        agreed doubtful h = absurd h
-        agreed mixed h = ((λ e. absurd (unlike doubtful mixed tt e)), (λ f. absurd (f refl)))
-
-    -- or say so
-    cleared : Demand3 (only O) (pair five five) (pos 5) (pos 1) 0 clear
-    cleared = record {
-      not-mixed = unlike clear mixed tt;
-      if-clear = λ e. far O five five _ (record { least = record { le = tt } }) (record { least = record { le = tt } });
-      if-inside = λ e. absurd (unlike clear within tt e);
-      if-doubtful = λ e. absurd (unlike clear doubtful tt e);
-      agrees = agreed;
-    }
-      where
-        agreed : (v : Verdict) → Exact (only O) (pair five five) (pos 5) v → (clear ≡ v) ↔ (clear ≡ doubtful → ⊥)
-        agreed clear h = ((λ e. unlike clear doubtful tt), (λ f. refl))
-        agreed within h = absurd (nearer O five _ (h five (inr refl)) .closer .lt)
-        agreed doubtful h = absurd h
-        agreed mixed h = absurd (h .0 (far O five five _ (record { least = record { le = tt } }) (record { least = record { le = tt } })))

@@ -157,6 +157,13 @@ exploreFigures =
     ∷ tests (pos 10) here (stripOf (side (pos 32) (pos 0) (pos 5)) (side (negsuc 19) (pos 0) (pos 3))) false true false
     ∷ tests (pos 10) here (stripOf (side (pos 32) (pos 0) (pos 5)) (side (negsuc 19) (pos 4) (pos 3))) false true true
     ∷ tests (pos 10) here (stripOf (side (pos 10) (pos 4) (pos 5)) (side (pos 0) (pos 0) (pos 3))) false true true
+    ∷ tests (pos 10) here (stripOf (side (pos 32) (pos 0) (pos 5)) (side (negsuc 19) (negsuc 0) (pos 3))) false true true
+    ∷ tests (pos 10) here (stripOf (side (pos 10) (negsuc 0) (pos 5)) (side (pos 0) (pos 0) (pos 3))) false true true
+    -- and so are two that cancel: an axis (3, −3) of length 5, rounded up
+    ∷ tests (pos 10) here (stripOf (side (pos 28) (pos 3) (pos 2)) (side (negsuc 1) (negsuc 2) (pos 3))) false false true
+    -- the square of the distance is 8, one below that of the reach: 2 and 2 at the farthest, and at the closest
+    ∷ tests (pos 3) (cell (pos 0) (pos 0) (pos 0)) (stripOf (side (pos 1) (pos 1) (pos 0)) (side (pos 1) (pos 1) (pos 0))) true false false
+    ∷ tests (pos 3) (cell (pos 0) (pos 0) (pos 0)) (stripOf (side (pos 3) (pos 1) (pos 0)) (side (pos 3) (pos 1) (pos 0))) false false false
     -- each test alone gives the answer
     ∷ says (pos 51) here (stripOf (side (pos 63) (negsuc 10) (pos 5)) (side (negsuc 90) (pos 14) (pos 10))) maybe
     ∷ says (pos 51) here (stripOf (side (pos 17) (negsuc 10) (pos 5)) (side (negsuc 10) (pos 14) (pos 10))) inside
@@ -178,6 +185,8 @@ exploreFigures =
     ∷ joins maybe maybe maybe
     -- a node's own answer, and its halves' where it has none
     ∷ explores [] away
+    ∷ explores (node (at (pos 0)) I I ∷ []) inside
+    ∷ explores (node (at (pos 0)) A A ∷ []) inside
     ∷ explores (node (at (pos 0)) A M ∷ []) inside
     ∷ explores (node (at (pos 1)) I M ∷ []) away
     ∷ explores (node (at (pos 2)) A A ∷ []) away
@@ -252,11 +261,11 @@ exploring-holds =
     (refl, refl, refl) and (refl, refl, refl) and (refl, refl, refl) and (refl, refl, refl) and (refl, refl, refl) and (refl, refl, refl) and (refl, refl, refl)
     and (refl, refl, refl) and (refl, refl, refl) and (refl, refl, refl) and (refl, refl, refl) and (refl, refl, refl) and (refl, refl, refl) and (refl, refl, refl)
     and (refl, refl, refl) and (refl, refl, refl) and (refl, refl, refl) and (refl, refl, refl) and (refl, refl, refl) and (refl, refl, refl) and (refl, refl, refl)
-    and (refl, refl, refl) and (refl, refl, refl)
+    and (refl, refl, refl) and (refl, refl, refl) and (refl, refl, refl) and (refl, refl, refl) and (refl, refl, refl) and (refl, refl, refl) and (refl, refl, refl)
     and refl and refl and refl and refl
     and refl and refl and refl and refl
     and refl and refl and refl and refl and refl and refl and refl and refl and refl
-    and refl and refl and refl and refl and refl and refl and refl and refl and refl and refl and refl
+    and refl and refl and refl and refl and refl and refl and refl and refl and refl and refl and refl and refl and refl
     and tt
 
 pub plates-hold : AllHold Holds plateFigures

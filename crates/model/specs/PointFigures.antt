@@ -1,6 +1,6 @@
 -- Figures on either side of each comparison that a result shows, of fractions, of two points' distance, and of the points of an edge and of a
 -- cell. Assumes nothing.
-use mathlib.Core.Path.{_≡_, refl, ap, _∙_}
+use mathlib.Core.Path.{_≡_, refl, sym, ap, _∙_}
 use mathlib.Core.Bool.{Bool, true, false}
 use mathlib.Core.Logic.{inl, inr}
 use mathlib.Core.List.{List, [], _∷_}
@@ -13,7 +13,7 @@ use Rattle.integers.specs.Inequalities.{≼-*}
 use Rattle.model.specs.Jobs.{Component, Edge}
 use Rattle.model.specs.Fractions.{Frac, _≤ᶠ_, _<ᶠ_, whole, _+ᶠ_, _-ᶠ_, sqᶠ, Point, dist², Closer, AtMost, AtLeast}
 use Rattle.model.specs.Exact.{bernstein, coordinateAt, Curve, Outline, CellPoint}
-use Rattle.model.specs.FigureTables.{AllHold, _and_, cubic, line, edge}
+use Rattle.model.specs.FigureTables.{AllHold, _and_, unequal, cubic, line, edge}
 
 -- ---- shorthands
 -- n over d + 1
@@ -82,10 +82,10 @@ pointFigures =
     ∷ no-more (over (pos 2) 2) (over (pos 5) 6) true
     ∷ less (over (pos 2) 2) (over (pos 5) 7) false
     ∷ no-more (over (pos 2) 2) (over (pos 5) 7) false
-    -- a distance of 5 against 9/2, 5 and 11/2
-    ∷ apart (spot (pos 1) (negsuc 1)) (spot (pos 4) (pos 2)) (over (pos 9) 1) false false true
+    -- a distance of 5 against a little less, 5 and a little more
+    ∷ apart (spot (pos 1) (negsuc 1)) (spot (pos 4) (pos 2)) (over (pos 4999) 999) false false true
     ∷ apart (spot (pos 1) (negsuc 1)) (spot (pos 4) (pos 2)) (whole (pos 5)) false true true
-    ∷ apart (spot (pos 1) (negsuc 1)) (spot (pos 4) (pos 2)) (over (pos 11) 1) true true false
+    ∷ apart (spot (pos 1) (negsuc 1)) (spot (pos 4) (pos 2)) (over (pos 5001) 999) true true false
     -- an edge at 0, 2/5 and 1: the second of two, and its point at 2/5
     ∷ fraction (coordinateAt uneven (over (pos 2) 4)) (negsuc 13532) (pos 125)
     ∷ on (edge rising rising ∷ edge uneven rising ∷ []) (spot (pos 17) (pos 0))
@@ -99,6 +99,8 @@ pointFigures =
     -- where the same edge would be at 2 and at −1
     ∷ off (edge rising rising ∷ []) (spot (pos 64) (pos 64))
     ∷ off (edge rising rising ∷ []) (spot (negsuc 7) (negsuc 7))
+    -- its x at 0 with its y at 1
+    ∷ off (edge rising rising ∷ []) (spot (pos 0) (pos 8))
     ∷ off [] (spot (pos 0) (pos 0))
     -- a cell of side 4 in column 2 and row 1, from (−3, 5): x from 5 to 9, y from 9 to 13. Its corners, and a little beyond each side
     ∷ in-cell 2 (negsuc 2) (pos 5) 2 1 (spot (pos 5) (pos 9)) true
@@ -153,6 +155,10 @@ before c =
     let h : pos 0 ≼ u = from-0 u d (c .from0) in
     too-near (u *ℤ u *ℤ u) (ap (λ P. P .x .top) (c .here) ∙ eight u (d -ℤ u)) (h ⊠ h ⊠ h)
 
+-- both coordinates are the same
+aside : Curve (edge rising rising) (spot (pos 0) (pos 8)) → ⊥
+aside c = unequal (pos 8) (pos 0) tt (ap (λ P. P .y .top) (c .here) ∙ sym (ap (λ P. P .x .top) (c .here)))
+
 pub points-hold : AllHold Holds pointFigures
 points-hold =
     (refl, refl) and (refl, refl) and (refl, refl) and (refl, refl) and (refl, refl)
@@ -170,6 +176,7 @@ points-hold =
     and inl (record { t = whole (pos 1); from0 = record { le = tt }; to1 = record { le = tt }; here = refl })
     and (λ h. elim h [ inl c ↦ past c | inr n ↦ n ])
     and (λ h. elim h [ inl c ↦ before c | inr n ↦ n ])
+    and (λ h. elim h [ inl c ↦ aside c | inr n ↦ n ])
     and (λ h. h)
     and record { column = record { first = record { le = tt }; last = record { le = tt } }; row = record { first = record { le = tt }; last = record { le = tt } } }
     and record { column = record { first = record { le = tt }; last = record { le = tt } }; row = record { first = record { le = tt }; last = record { le = tt } } }
