@@ -56,7 +56,7 @@ bandFigures =
 pub band-holds : AllHold Holds bandFigures
 band-holds = (refl, refl, refl, refl) and (refl, refl, refl, refl) and tt
 
--- ---- verdicts: the outline is (0, 0), the cell (3, 4) or (6, 8) or both
+-- ---- verdicts: outline and cell are points on one line through (0, 0), each named for its distance from there, and one beside it
 abbrev pub O : Point
 O = spot (pos 0) (pos 0)
 
