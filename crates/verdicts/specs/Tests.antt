@@ -56,7 +56,7 @@ length-reaches S =
     let n : ℤ = S .x .axis *ℤ S .x .axis +ℤ S .y .axis *ℤ S .y .axis in
     subst (λ t. t ≼ lengthOf S *ℤ lengthOf S) (pos-natAbs n (yes-nonNeg (sq (S .x .axis) ⊞ sq (S .y .axis)))) (pos-≼ (root-reaches (natAbs n)))
 
--- it is above 0 where the axis is not (0, 0)
+-- it is above 0 where the axis is not (0, 0): what is not 0 has a square above 0
 square-above : (p : ℤ) → isZero p ≡ false → pos 0 ≺ p *ℤ p
 unfolding isZero
 square-above (pos zero) e = clash (cc)
