@@ -37,8 +37,8 @@ impl Test {
     const ALL: [Test; TESTS] = [Test::Inside, Test::Apart, Test::ApartNoAxis, Test::Across];
 
     /// Whether the letter may stand at the cell. The strip is the whole edge's:
-    /// if it is away, so is the edge, and if not, some of the edge is nearer
-    /// than the reach to some of the cell.
+    /// if it is away, so is the edge. At a tie of inside every point of the strip
+    /// is nearer than the reach to the cell's centre, so the cell is not clear.
     pub fn allows(self, letter: char) -> bool {
         (letter == 'C') != matches!(self, Test::Inside)
     }

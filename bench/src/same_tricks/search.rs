@@ -16,13 +16,13 @@ const ROOT_CAP: i64 = 1 << 30;
 /// Whether cross ≥ r·L, with L the least whole number whose square is at least
 /// `square`. That is L ≤ k with k = cross / r, so square ≤ k². No L is below
 /// `low`, which settles most cases without the division. Without an axis, where
-/// the square is 0, nothing lies across.
+/// the square is 0, nothing lies across; that is asked last.
 fn is_beyond(cross: i64, r: i64, low: i64, square: i64) -> bool {
-    if cross < r * low || square == 0 {
+    if cross < r * low {
         return false;
     }
     let k = (cross / r).min(ROOT_CAP);
-    square <= k * k
+    square != 0 && square <= k * k
 }
 
 /// What one node says by itself of the cell at (x, y) with half side s.

@@ -1,27 +1,26 @@
 -- What a legal job has, as the code over its trees asks for it: its places' and its grain's sizes, and trees whose strips are sized.
 -- Assumes nothing.
-use mathlib.Core.Path.{_≡_, sym, subst}
+use mathlib.Core.Path.{_≡_}
 use mathlib.Core.Bool.{Bool, true, false, cond}
 use mathlib.Core.List.{List, [], _∷_}
 use Prim.Native.Nat.{ℕ, zero, suc, _+_, _*_, _≤_}
 use native.Mathlib.Omega.{arith}
-use lib.Dec.{T, eqb→eq}
-use lib.IntN.{ℤ, pos, negsuc, natAbs}
+use lib.Dec.{T}
+use lib.IntN.{ℤ, pos, natAbs}
 use lib.Signed.{nonNeg}
 use lib.ListN.{getD}
 use Rattle.integers.specs.Tests.{both}
 use Rattle.model.specs.declared.Job.{Job}
 use Rattle.model.specs.Jobs.{cubic, line, coordinate, isZero, placed, componentAt, edgeAt, edgesFrom, outline}
 use Rattle.model.specs.Store.{forest}
+use Rattle.ranges.specs.Zeros.{zero-is}
 use Rattle.ranges.specs.Legal.{coordinate-true, coordinate-size, natural, Legal}
 use Rattle.ranges.specs.Sizes.{grainMost, ControlSized, EachSized}
 use Rattle.ranges.specs.Strips.{EdgeSized, EdgesSized, trees-sized}
 
 -- ---- a job's 512 numbers
 zero-in : (z : ℤ) → isZero z ≡ true → natAbs z ≤ 1000000
-unfolding isZero
-zero-in (pos n) e = let z : n ≡ 0 = eqb→eq n 0 (subst T (sym e) tt) in omega arith
-zero-in (negsuc n) e = absurd (subst T (sym e) tt)
+zero-in z e = rw (zero-is z e) (omega arith)
 
 pub record Limits (l : List ℤ) : Type 0 where
   pub within : (i : ℕ) → natAbs (getD l i (pos 0)) ≤ 1000000

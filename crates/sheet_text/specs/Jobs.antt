@@ -12,6 +12,7 @@ use lib.Seq.{getD-drop}
 use borrow.Author.Tests.{eqb-true}
 use Rattle.model.specs.declared.Job.{Job}
 use Rattle.model.specs.Jobs.{coordinate, isZero, placed, isOne, spare, kind, marked}
+use Rattle.ranges.specs.Zeros.{zero-is}
 use Rattle.ranges.specs.Legal.{Between, Coordinate, coordinate-true, coordinate-size, natural, Legal}
 use Rattle.integers.specs.Tests.{both, or-true}
 use Rattle.sheet_text.specs.Tests.{no-way}
@@ -26,11 +27,6 @@ coordinate-small z h = omega (arith, coordinate-size z h)
 pub natural-small : {lo hi : ℕ} (z : ℤ) → hi < 10000000 → Between (pos lo) (pos hi) z → Small z
 unfolding Small
 natural-small z k h = omega (arith, natural z h .most)
-
-pub zero-is : (z : ℤ) → isZero z ≡ true → z ≡ pos 0
-unfolding isZero
-zero-is (pos n) h = ap pos (eqb-true n 0 h)
-zero-is (negsuc n) h = no-way h
 
 -- ---- the places
 pub placed-small : (k : ℕ) (vs : List ℤ) → placed k vs ≡ true → AllSmall vs

@@ -3,10 +3,9 @@ use mathlib.Core.Path.{_≡_, refl, sym, _∙_, ap, ap₂, subst}
 use mathlib.Core.Bool.{Bool, true, false, not, cond, _&&_, _||_}
 use mathlib.Core.Logic.{inl, inr}
 use Prim.Native.Nat.{ℕ}
-use borrow.Author.Tests.{eqb-true, ne-eqb}
 use lib.IntN.{ℤ, pos, negsuc, natAbs, _+ℤ_, _-ℤ_, _*ℤ_}
 use lib.Dec.{T}
-use lib.Signed.{leZ, ltZ, ltZ-yes, ltZ-no, clashℤ, <ℤ-irrefl}
+use lib.Signed.{leZ, ltZ, ltZ-yes, ltZ-no, clashℤ}
 use Rattle.integers.specs.Order.{_≼_, _≺_, num, gap}
 use Rattle.integers.specs.Omega.{zarith}
 use Rattle.integers.specs.Inequalities.{from, _&_}
@@ -16,7 +15,7 @@ use Rattle.model.specs.Jobs.{isZero}
 use Rattle.model.specs.Strips.{Strip}
 use Rattle.model.specs.Roots.{root}
 use Rattle.model.specs.Explore.{Cell, squares, atLeast0, isInside, isAway₁, isAway₂, lengthOf, Answer, inside, away, maybe, byTests, judged}
-use Rattle.verdicts.specs.AnswerCases.{clash}
+use Rattle.ranges.specs.Zeros.{zero-is, above-is-not}
 use Rattle.verdicts.specs.Tests.{squares-above}
 
 abbrev pub insideBy : ℤ → ℤ → ℤ → ℤ → ℤ → Bool
@@ -80,18 +79,10 @@ squares-zero : (p q : ℤ) → isZero (squares p q) ≡ (isZero p && isZero q)
 unfolding isZero
 squares-zero p q = go (isZero p) (isZero q) refl refl
   where
-    above : (n : ℤ) → pos 0 ≺ n → isZero n ≡ false
-    above (pos n) h = ne-eqb n 0 (λ e. <ℤ-irrefl (subst (λ m. pos 0 ≺ pos m) e h))
-    above (negsuc n) h = refl
-
-    zero-is : (z : ℤ) → isZero z ≡ true → z ≡ pos 0
-    zero-is (pos n) e = ap pos (eqb-true n 0 e)
-    zero-is (negsuc n) e = clash (cc)
-
     go : (a b : Bool) → isZero p ≡ a → isZero q ≡ b → isZero (squares p q) ≡ (a && b)
     go true true e f = rw (zero-is p e, zero-is q f)
-    go true false e f = above (squares p q) (squares-above p q (inr f))
-    go false b e f = above (squares p q) (squares-above p q (inl e))
+    go true false e f = above-is-not (squares p q) (squares-above p q (inr f))
+    go false b e f = above-is-not (squares p q) (squares-above p q (inl e))
 
 -- what the code asks of a node and a cell is the model's answer
 pub judge-is : (r : ℤ) (c : Cell) (S : Strip) → judgeBy (c .cx -ℤ S .x .centre) (c .cy -ℤ S .y .centre) (S .x .axis) (S .y .axis) (S .x .box +ℤ c .s) (S .y .box +ℤ c .s) r ≡ judged r c S
