@@ -2,8 +2,8 @@
 
 use clearance_reference::trees::NUMBERS_A_NODE;
 
-/// In the order of joining: the greater of two answers holds.
-#[derive(Clone, Copy, PartialEq, Eq, PartialOrd, Ord)]
+/// Of a node by itself, or of a tree.
+#[derive(Clone, Copy, PartialEq, Eq)]
 pub enum Answer {
     Away,
     Maybe,
@@ -46,21 +46,28 @@ fn own_answer(node: &[i32; NUMBERS_A_NODE], x: i64, y: i64, s: i64, r: i64) -> A
     Answer::Maybe
 }
 
-/// What the tree in `part` says. An answer of `enough` settles it.
+/// What the tree in `part` says, from one node after the other in the order of
+/// the store. A node that is away is stepped past with its subtree; the halves
+/// of one that is maybe stand right behind it. No node answers above `enough`.
 pub fn search(part: &[i32], x: i64, y: i64, s: i64, r: i64, enough: Answer) -> Answer {
-    let Some((node, halves)) = part.split_first_chunk() else {
-        return Answer::Away;
-    };
-    let here = own_answer(node, x, y, s, r);
-    if here != Answer::Maybe || halves.is_empty() {
-        return here;
+    let mut found = Answer::Away;
+    let mut at = 0;
+    while let Some(node) = part[at..].first_chunk() {
+        match own_answer(node, x, y, s, r) {
+            Answer::Inside => return Answer::Inside,
+            Answer::Away => at += tree_length(part, at),
+            Answer::Maybe => {
+                if tree_length(part, at) == NUMBERS_A_NODE {
+                    if enough == Answer::Maybe {
+                        return Answer::Maybe;
+                    }
+                    found = Answer::Maybe;
+                }
+                at += NUMBERS_A_NODE;
+            }
+        }
     }
-    let (left, right) = halves.split_at(tree_length(halves, 0));
-    let answer = search(left, x, y, s, r, enough);
-    if answer >= enough {
-        return answer;
-    }
-    answer.max(search(right, x, y, s, r, enough))
+    found
 }
 
 /// The numbers of the tree that starts here.
@@ -68,8 +75,8 @@ pub fn tree_length(store: &[i32], start: usize) -> usize {
     NUMBERS_A_NODE * store[start + NUMBERS_A_NODE - 1] as usize
 }
 
-/// The answer after which a tree need not be searched further: where the cell
-/// alone reaches too far, no node can be inside.
+/// The answer above which no node goes: where the cell alone reaches too far,
+/// none can be inside, and the first maybe leaf settles a tree.
 pub fn enough_for(s: i64, r: i64) -> Answer {
     if 2 * s * s >= r * r {
         Answer::Maybe

@@ -13,10 +13,11 @@ use Rattle.integers.specs.Inequalities.{from, _&_}
 use Rattle.integers.specs.Absolute.{absℤ, abs-nonneg}
 use Rattle.integers.specs.Signed.{nonneg}
 use Rattle.model.specs.Strips.{Side}
-use Rattle.model.specs.Explore.{Answer, inside, away, maybe, farthest, isInside, byTests, judged}
+use Rattle.model.specs.Explore.{farthest, isInside, byTests, judged}
 use Rattle.strip_tests.specs.PlainTests.{code}
 use Rattle.ranges.specs.Sizes.{SideSized}
 use Rattle.search.specs.Probes.{cellAt, Enough}
+use Rattle.search.proofs.Finds.{code-few}
 
 -- the farthest is at least the half side
 far : (w p b s : ℤ) → pos 0 ≼ w → pos 0 ≼ p → pos 0 ≼ b → pos 0 ≼ s → s *ℤ s ≼ (w +ℤ p +ℤ (b +ℤ s)) *ℤ (w +ℤ p +ℤ (b +ℤ s))
@@ -41,11 +42,6 @@ too-wide s r hs h x y S f =
     (sum (r *ℤ r) s (farthest x s (S .x) *ℤ farthest x s (S .x)) (farthest y s (S .y) *ℤ farthest y s (S .y)) (leZ-yes (subst T (sym h) tt))
     (far-side x s (S .x) (nonneg s hs) (f .x-sized)) (far-side y s (S .y) (nonneg s hs) (f .y-sized))))
 
-two : (a : Answer) → code a ≤ 2
-two inside = omega arith
-two away = omega arith
-two maybe = omega arith
-
 pub any : (x y s r : ℤ) → Enough x y s r 2
 unfolding Enough
-any x y s r S f = two (judged r (cellAt x y s) S)
+any x y s r S f = code-few (judged r (cellAt x y s) S)

@@ -1,18 +1,16 @@
-// A cell's answer from one edge's part of the store, by recursion on the two subtrees of a node. Answers are 0 away, 1 maybe, 2 inside, as
-// `code` gives them, so that joined the larger holds.
+// A cell's answer from one edge's part of the store, by one loop over its nodes. Answers are 0 away, 1 maybe, 2 inside, as `code` gives them, so
+// that joined the larger holds.
 use nodes::COUNT;
-use nodes::LEFT_COUNT;
 use nodes::WIDTH;
 use nodes::X;
 use nodes::Y;
 use nodes::count_at;
 use nodes::extent_at;
 ghost use mathlib.Core.Path.{_≡_};
-ghost use mathlib.Core.Bool.{cond};
 ghost use Prim.Native.Nat.{_≤_, _<_};
 ghost use lib.IntN.{ℤ, natAbs};
 ghost use lib.Signed.{nonNeg};
-ghost use lib.Dec.{T, ltb};
+ghost use lib.Dec.{T};
 ghost use lib.ListN.{length};
 ghost use Rattle.model.specs.Trees.{Tree};
 ghost use Rattle.model.specs.Store.{width, flatten};
@@ -66,32 +64,32 @@ fn own(part: &[i32], probe: Probe) -> u8
     strip_tests::judge(wx, wy, x.axis, y.axis, a, b, probe.r)
 }
 
-fn join(l: u8, r: u8) -> u8
-    ensures larger { λ a. ⌜ a ≡ cond (ltb l r) r l ⌝ }
-{
-    if l < r { r } else { l }
-}
-
-// the answer of the tree that part holds
+// the answer of the tree that part holds, from one node after the other in store order: one that is inside ends the walk, one that is away is
+// stepped past with its subtree, and the halves of any other stand right behind it
 pub fn search(part: &[i32], probe: Probe) -> u8
     requires held { ⌜ TreeOf (now part) × Fair probe ⌝ }
     ensures answer { λ a. ⌜ ((t : Tree) → AllSized t → now (part .entry) ≡ flatten t → a ≡ code (explore (judgedBy probe) t)) ⌝ }
 {
-    let here = own(part, probe);
-    if here != 1 {
-        return here;
-    }
-    let n = count_at(part, COUNT);
-    if n == 1 {
-        return 1;
-    }
-    let nl = count_at(part, LEFT_COUNT);
-    let mid = WIDTH + WIDTH * nl;
     let enough = probe.enough;
-    let left = search(&part[WIDTH..mid], probe);
-    if enough <= left {
-        return left;
+    let mut found: u8 = 0;
+    let mut at: usize = 0;
+    while at < part.len() {
+        let here = own(&part[at..], probe);
+        if here == 2 {
+            return 2;
+        }
+        let n = count_at(part, at + COUNT);
+        if here == 0 {
+            at += WIDTH * n;
+        } else {
+            at += WIDTH;
+            if n == 1 {
+                if enough <= 1 {
+                    return 1;
+                }
+                found = 1;
+            }
+        }
     }
-    let right = search(&part[mid..], probe);
-    join(left, right)
+    found
 }

@@ -30,7 +30,7 @@ pub record TreeOf (l : List ℤ) : Type 0 where
 pub front : {l : List ℤ} → TreeOf l → width ≤ length l
 front {l} h = omega (arith, ap length (h .is), length-flatten (h .tree), size-pos (h .tree))
 
-top-sized : (t : Tree) → AllSized t → Sized (top t)
+pub top-sized : (t : Tree) → AllSized t → Sized (top t)
 top-sized (leaf s) f = f
 top-sized (long s) f = f
 top-sized (node s a b) f = f .0

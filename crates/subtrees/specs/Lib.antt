@@ -3,6 +3,7 @@ pub mod Preorder
 pub mod Begins
 pub mod Halves
 pub mod Fronts
+pub mod Pending
 pub mod Subtrees
 pub mod Counts
 pub mod Sizes
