@@ -1,5 +1,5 @@
 -- What a tree answers, by the numbers that stand for answers. Assumes nothing.
-use mathlib.Core.Path.{_≡_, refl, ap}
+use mathlib.Core.Path.{_≡_, refl}
 use Prim.Native.Nat.{ℕ, _≤_, max}
 use native.Mathlib.Omega.{arith}
 use Rattle.model.specs.Strips.{Strip}

@@ -3,16 +3,16 @@ use Rattle.search.proofs.search.Statement.{statement}
 use Rattle.search.proofs.search.Tie as tie
 use mathlib.Core.Path.{_≡_, refl}
 use mathlib.Core.List.{List}
-use Prim.Native.Nat.{ℕ, _+_, _*_, _-_, _≤_, _<_}
+use Prim.Native.Nat.{ℕ, _+_, _*_, _-_, _≤_}
 use native.Mathlib.Omega.{arith}
 use lib.IntN.{ℤ, pos, natAbs}
 use lib.Dec.{T}
 use lib.Signed.{nonNeg}
-use lib.ListN.{length, getD, drop, take, length-drop}
+use lib.ListN.{length, getD, drop, length-drop}
 use Rattle.model.specs.Strips.{Strip}
 use Rattle.model.specs.Trees.{Tree}
 use Rattle.model.specs.Explore.{Answer, explore}
-use Rattle.model.specs.Store.{width, size, flatten}
+use Rattle.model.specs.Store.{width, flatten}
 use Rattle.ranges.specs.Sizes.{AllSized}
 use Rattle.strip_tests.specs.PlainTests.{code}
 use Rattle.nodes.specs.Places.{countPlace, stripIn}
