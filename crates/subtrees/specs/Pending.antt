@@ -40,6 +40,9 @@ module _ (l : List ℤ) (at : ℕ) where
     sized = r .sized .1;
   }
 
+  pub within : (ts : List Tree) → Rest l at ts → at ≤ length l
+  within ts r = omega (arith, r .long)
+
   -- at the end there is none, and before it there is one
   pub done : (ts : List Tree) → Rest l at ts → length l ≤ at → ts ≡ []
   done [] r h = refl

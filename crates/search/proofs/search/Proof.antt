@@ -3,7 +3,7 @@ use Rattle.search.proofs.search.Statement.{statement}
 use Rattle.search.proofs.search.Tie as tie
 use mathlib.Core.Path.{_≡_, refl}
 use mathlib.Core.List.{List}
-use Prim.Native.Nat.{ℕ, _+_, _*_, _-_, _≤_}
+use Prim.Native.Nat.{ℕ, _+_, _*_, _-_, _≤_, _<_}
 use native.Mathlib.Omega.{arith}
 use lib.IntN.{ℤ, pos, natAbs}
 use lib.Dec.{T}
@@ -61,9 +61,14 @@ module _ (c : tie.In-loop Inv-loop μ-loop) where
   abbrev count : ℕ
   count = natAbs (getD (list start) (at + countPlace) (pos 0))
 
+  more : at < length (list start)
+  more =
+      let w = c .before .loop .inv (start .pre .0 .tree) (start .pre .0 .sized) (start .pre .0 .is) in
+      omega (arith, pending.within (list start) at (w .pending) (w .rest), c .loop-test .taken)
+
   -- of any tree that the part holds it is the next, read or not
   next : (here n : ℕ) → here ≡ answer → n ≡ count → (t : Tree) → AllSized t → list start ≡ flatten t → walks.Next (by start) (list start) t found at here n
-  next here n e k t f i = walks.next (by start) (c .before .loop .inv t f i) (c .loop-test .taken) e k
+  next here n e k t f i = walks.next (by start) (c .before .loop .inv t f i) more e k
 
   -- of the one that the contract names
   abbrev known : walks.Next (by start) (list start) (start .pre .0 .tree) found at answer count
@@ -85,7 +90,7 @@ part-own-start : tie.Need-part-own-start Inv-loop μ-loop
 part-own-start c = omega (arith, front c)
 
 part-own-end : tie.Need-part-own-end Inv-loop μ-loop
-part-own-end c = omega arith
+part-own-end c = omega (arith, front c)
 
 own-requires : tie.Need-own-requires Inv-loop μ-loop
 own-requires c κs =
@@ -139,7 +144,7 @@ loop-less : tie.Need-loop-less Inv-loop μ-loop
 loop-less c = let r = room (c .before) in omega (arith, r .0, r .1)
 
 loop-again : tie.Need-loop-again Inv-loop μ-loop
-loop-again c = λ t f e. walks.past-away (node (c .before) t f e) (omega (arith, room (c .before) .0)) (omega (arith, c .if2 .taken))
+loop-again c = λ t f e. walks.past-away (node (c .before) t f e) (omega (arith, room (c .before) .0)) (omega (arith, few (c .before .before .before), c .before .before .if1 .left, c .if2 .taken))
 
 -- one that is neither inside nor away is maybe
 maybe-is : (c : tie.Else2 Inv-loop μ-loop) → here (c .before) ≡ 1
@@ -151,8 +156,10 @@ add-at-2 c = let r = room (c .before) in omega (arith, r .0, r .1)
 returns-2 : tie.Need-returns-2 Inv-loop μ-loop
 returns-2 c = λ t f e.
     let m = c .before .before in
-    let z = walks.leaf-ends (node (m .before) t f e) (maybe-is m) (omega (arith, c .before .if3 .taken)) (omega (arith, at-most (start (inner (m .before))) t f, c .if4 .taken)) in
-    omega (arith, z)
+    let k = m .before in
+    let most-is = at-most (start (inner k)) t f in
+    let z = walks.leaf-ends (node k t f e) (maybe-is m) (omega (arith, room k .0, c .before .if3 .taken)) (omega (arith, most-is, c .if4 .taken)) in
+    omega (arith, z, maybe-is m, most-is, c .if4 .taken)
 
 loop-less-2 : tie.Need-loop-less-2 Inv-loop μ-loop
 loop-less-2 c = let r = room (c .before .before .before) in omega (arith, r .0, r .1)
@@ -160,7 +167,7 @@ loop-less-2 c = let r = room (c .before .before .before) in omega (arith, r .0, 
 loop-again-2 : tie.Need-loop-again-2 Inv-loop μ-loop
 loop-again-2 c = λ t f e.
     let m = c .before .before in
-    walks.past-leaf (node (m .before) t f e) (omega arith) (omega arith) (maybe-is m) (omega (arith, c .before .if3 .taken))
+    walks.past-leaf (node (m .before) t f e) (omega (arith, maybe-is m)) (omega arith) (maybe-is m) (omega (arith, room (m .before) .0, c .before .if3 .taken))
 
 loop-less-3 : tie.Need-loop-less-3 Inv-loop μ-loop
 loop-less-3 c = let r = room (c .before .before) in omega (arith, r .0, r .1)
