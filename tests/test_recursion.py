@@ -21,7 +21,7 @@ def stands_on(name):
 
 
 def cycles(names):
-    return sorted(str(folder.relative_to(TOP)) for name in names for folder in (TOP / "crates" / name / "proofs").glob("+*"))
+    return sorted(str(folder.relative_to(TOP)) for name in names for folder in (TOP / "crates" / name / "proofs").rglob("+*"))
 
 
 class Recursion(unittest.TestCase):
