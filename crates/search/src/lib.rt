@@ -64,8 +64,9 @@ fn own(part: &[i32], probe: Probe) -> u8
     strip_tests::judge(wx, wy, x.axis, y.axis, a, b, probe.r)
 }
 
-// the answer of the tree that part holds, from one node after the other in store order: one that is inside ends the walk, one that is away is
-// stepped past with its subtree, and the halves of any other stand right behind it
+// the answer of the tree that part holds, from one node after the other in store order. One that is inside ends the walk, and one that is away is
+// stepped past with its subtree. Of those that are maybe a leaf is noted, or ends the walk where no strip goes above maybe, and the halves of any
+// other stand right behind it
 pub fn search(part: &[i32], probe: Probe) -> u8
     requires held { ⌜ TreeOf (now part) × Fair probe ⌝ }
     ensures answer { λ a. ⌜ ((t : Tree) → AllSized t → now (part .entry) ≡ flatten t → a ≡ code (explore (judgedBy probe) t)) ⌝ }

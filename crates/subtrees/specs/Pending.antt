@@ -40,6 +40,7 @@ module _ (l : List ℤ) (at : ℕ) where
     sized = r .sized .1;
   }
 
+  -- a walk does not leave the part
   pub within : (ts : List Tree) → Rest l at ts → at ≤ length l
   within ts r = omega (arith, r .long)
 
