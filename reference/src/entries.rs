@@ -4,7 +4,7 @@
 
 use crate::job::{judge_with_spot, Job};
 use crate::plate::{cells_a_side, draw};
-use crate::point::{nearest, Nearest};
+use crate::point::{lookup, Lookup, Nearest};
 use crate::refusal::Refusal;
 use crate::sheet;
 use crate::trees::{grow, node_count, store_numbers};
@@ -39,6 +39,12 @@ pub fn map(job: &Job, store: &mut [i32], cells: &mut [u8]) -> Result<usize, Refu
 /// Bounds the distance from a spot to the outline whose trees the store holds.
 /// Refuses with 2, 3, 4, 5, 6 or 8.
 pub fn point(job: &Job, x: i32, y: i32, store: &[i32]) -> Result<Nearest, Refusal> {
+    point_with_reads(job, x, y, store).map(|lookup| lookup.nearest)
+}
+
+/// As [`point`], with the count of the nodes that the lookup read. The check of
+/// the store before it is not counted.
+pub fn point_with_reads(job: &Job, x: i32, y: i32, store: &[i32]) -> Result<Lookup, Refusal> {
     judge_with_spot(job, x, y)?;
     let trees = grow(job)?;
     let numbers = store_numbers(&trees);
@@ -47,5 +53,5 @@ pub fn point(job: &Job, x: i32, y: i32, store: &[i32]) -> Result<Nearest, Refusa
         return Err(Refusal::Stranger);
     }
     // A legal job has an edge, so there is always a nearest one.
-    nearest(&trees, x, y).ok_or(Refusal::Edges)
+    lookup(&trees, x, y).ok_or(Refusal::Edges)
 }

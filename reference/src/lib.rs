@@ -4,11 +4,13 @@
 //! numbers in a slice, and nothing is saved between calls.
 //!
 //! The four entries are [`read`], [`write()`], [`map`] and [`point`]. Each takes
-//! any argument whatever and gives a result or a [`Refusal`].
+//! any argument whatever and gives a result or a [`Refusal`]. A point's lookup
+//! can also be asked how many nodes it read: [`point_with_reads`].
 
 #![forbid(unsafe_code)]
 #![warn(missing_docs)]
 
+pub mod boxes;
 mod edge;
 mod entries;
 pub mod explore;
@@ -23,10 +25,10 @@ pub mod strips;
 pub mod trees;
 
 pub use edge::{Edge, CUBIC_MARK, LINE_MARK, NUMBERS_AN_EDGE, NUMBERS_A_LINE};
-pub use entries::{map, point, read, write};
+pub use entries::{map, point, point_with_reads, read, write};
 pub use job::{
     judge, judge_with_spot, Job, COORDINATE_LIMIT, EDGE_LIMIT, GRAIN_LIMIT, REACH_LIMIT,
 };
-pub use point::Nearest;
+pub use point::{lookup, Lookup, Nearest};
 pub use refusal::Refusal;
 pub use sheet::{DEFAULT_GRAIN, SHEET_LIMIT};

@@ -1,7 +1,7 @@
 //! The texts the program prints. The map and the refusal are those of RULES,
-//! "Printing"; the store and the point are this program's own.
+//! "Printing"; the store, the point and its reads are this program's own.
 
-use crate::point::Nearest;
+use crate::point::{Lookup, Nearest};
 use crate::refusal::Refusal;
 use crate::trees::NUMBERS_A_NODE;
 use std::fmt::Write;
@@ -31,6 +31,16 @@ pub fn store(numbers: &[i32]) -> String {
 /// The bounds on a point's distance.
 pub fn point(nearest: &Nearest) -> String {
     format!("(point {} {} {})\n", nearest.lo, nearest.hi, nearest.edge)
+}
+
+/// How many nodes a lookup read.
+pub fn reads(lookup: &Lookup) -> String {
+    format!("(reads {})\n", lookup.reads)
+}
+
+/// The bounds and the reads, on one line.
+pub fn point_and_reads(lookup: &Lookup) -> String {
+    format!("{} {}", point(&lookup.nearest).trim_end(), reads(lookup))
 }
 
 /// A refusal.

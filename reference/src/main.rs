@@ -1,13 +1,13 @@
-//! The command-line program: the rules' program as `map`, and four more
+//! The command-line program: the rules' program as `map`, and five more
 //! commands for comparing it with another implementation.
 
-use clearance_reference::{judge_with_spot, listing, map, point, probe, read, trees, write};
-use clearance_reference::{Refusal, SHEET_LIMIT};
+use clearance_reference::{judge_with_spot, listing, map, point_with_reads, probe, read};
+use clearance_reference::{trees, write, Job, Lookup, Refusal, SHEET_LIMIT};
 use std::io::{self, Read, Write};
 use std::process::ExitCode;
 
-/// Numbers of store the program lends: RULES, "Printing".
-const LENT_NUMBERS: usize = 16_380;
+/// Numbers of store the program lends, those of 1,489 nodes: RULES, "Printing".
+const LENT_NUMBERS: usize = 16_379;
 /// Bytes of map the program lends: RULES, "Printing".
 const LENT_CELLS: usize = 65_536;
 
@@ -18,6 +18,7 @@ Reads a job sheet from standard input.
   map        write the clearance map
   store      write the trees, a node a line, for any number of nodes
   point X Y  write (point LO HI EDGE), fine units squared
+  reads X Y  write (reads N), the nodes read for the same point
   write      write the sheet back
   probe      write the answers to a fixed battery of points and stores
   --help     write this text
@@ -29,6 +30,7 @@ enum Command {
     Map,
     Store,
     Point(i32, i32),
+    Reads(i32, i32),
     Write,
     Probe,
 }
@@ -38,10 +40,19 @@ fn command(arguments: &[&str]) -> Option<Command> {
         ["map"] => Some(Command::Map),
         ["store"] => Some(Command::Store),
         ["point", x, y] => Some(Command::Point(x.parse().ok()?, y.parse().ok()?)),
+        ["reads", x, y] => Some(Command::Reads(x.parse().ok()?, y.parse().ok()?)),
         ["write"] => Some(Command::Write),
         ["probe"] => Some(Command::Probe),
         _ => None,
     }
+}
+
+/// The lookup of a spot in a store of the job's own.
+fn asked(job: &Job, x: i32, y: i32) -> Result<Lookup, Refusal> {
+    // The spot's range comes before the length of the pieces.
+    judge_with_spot(job, x, y)?;
+    let numbers = trees::store_numbers(&trees::grow(job)?);
+    point_with_reads(job, x, y, &numbers)
 }
 
 /// What the program writes for a sheet, or why it is refused.
@@ -59,12 +70,8 @@ fn answer(command: &Command, sheet: &[u8]) -> Result<Vec<u8>, Refusal> {
             let numbers = trees::store_numbers(&trees::grow(&job)?);
             Ok(listing::store(&numbers).into())
         }
-        Command::Point(x, y) => {
-            // The spot's range comes before the length of the pieces.
-            judge_with_spot(&job, x, y)?;
-            let numbers = trees::store_numbers(&trees::grow(&job)?);
-            Ok(listing::point(&point(&job, x, y, &numbers)?).into())
-        }
+        Command::Point(x, y) => Ok(listing::point(&asked(&job, x, y)?.nearest).into()),
+        Command::Reads(x, y) => Ok(listing::reads(&asked(&job, x, y)?).into()),
         Command::Write => {
             let mut lent = [0; SHEET_LIMIT];
             let length = write(&job, &mut lent)?;

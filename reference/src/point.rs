@@ -1,6 +1,14 @@
-//! Bounds on the distance of a point: RULES, "Distance".
+//! Bounds on the distance of a point, and how they are looked up: RULES,
+//! "Distance" and "Lookup".
+//!
+//! The lookup passes over what a box shows to be too far, and still gives the
+//! bounds and the first edge of a lookup that asks every leaf. Call h the least
+//! hi so far. It belongs to a leaf already asked, whose lo is no more than its
+//! hi, so the least lo so far is at most h. Every leaf below a skipped node has
+//! its box in that node's, so its lo is at least h, and its hi is no less than
+//! its lo. So neither bound would become less, and as h is not undercut, the edge
+//! would stay the same.
 
-use crate::strips::Strip;
 use crate::trees::Tree;
 
 /// The bounds, in fine units squared.
@@ -14,34 +22,72 @@ pub struct Nearest {
     pub edge: usize,
 }
 
-/// The bounds for a spot in hundredths of a millimetre; `None` without edges.
-pub fn nearest(trees: &[Tree], x: i32, y: i32) -> Option<Nearest> {
-    let spot = [x, y].map(|number| 16 * i64::from(number));
-    let mut best: Option<Nearest> = None;
-    for (edge, tree) in trees.iter().enumerate() {
-        for leaf in tree.leaves() {
-            let (lo, hi) = leaf_bounds(leaf, spot);
-            best = Some(match best {
-                None => Nearest { lo, hi, edge },
-                Some(old) => Nearest {
-                    lo: old.lo.min(lo),
-                    hi: old.hi.min(hi),
-                    edge: if hi < old.hi { edge } else { old.edge },
-                },
-            });
-        }
-    }
-    best
+/// The bounds, and what it took to find them.
+#[derive(Clone, Copy, Debug, PartialEq, Eq)]
+pub struct Lookup {
+    /// The bounds themselves.
+    pub nearest: Nearest,
+    /// The nodes looked at, each once. Skipped nodes are among them; those
+    /// below a skipped node are not.
+    pub reads: usize,
 }
 
-/// The least and the largest squared distance to a leaf's upright box.
-fn leaf_bounds(leaf: &Strip, spot: [i64; 2]) -> (i64, i64) {
-    let extent = leaf.extent();
-    let offset = [0, 1].map(|c| (spot[c] - leaf.centre[c]).abs());
-    let [near_x, near_y] = [0, 1].map(|c| (offset[c] - extent[c]).max(0));
-    let [far_x, far_y] = [0, 1].map(|c| offset[c] + extent[c]);
-    (
-        near_x * near_x + near_y * near_y,
-        far_x * far_x + far_y * far_y,
-    )
+/// The bounds for a spot in hundredths of a millimetre; `None` without edges.
+/// The trees are gone through in the order of the store. The spot is in range,
+/// which the entries see to, so its squares fit 64 bits.
+pub fn lookup(trees: &[Tree], x: i32, y: i32) -> Option<Lookup> {
+    let mut search = Search {
+        spot: [x, y].map(|number| 16 * i64::from(number)),
+        best: None,
+        reads: 0,
+    };
+    for (edge, tree) in trees.iter().enumerate() {
+        search.visit(edge, tree);
+    }
+    let reads = search.reads;
+    search.best.map(|nearest| Lookup { nearest, reads })
+}
+
+/// A lookup under way. All trees share one, so that what an edge has shown
+/// serves the edges after it.
+struct Search {
+    /// The spot in fine units.
+    spot: [i64; 2],
+    /// The bounds of the leaves so far; `None` before the first.
+    best: Option<Nearest>,
+    reads: usize,
+}
+
+impl Search {
+    /// Reads a node, and unless it is skipped what lies below it.
+    fn visit(&mut self, edge: usize, tree: &Tree) {
+        self.reads += 1;
+        let near = tree.upright_box().nearest_square(self.spot);
+        if self.best.is_some_and(|best| near >= best.hi) {
+            return;
+        }
+        match tree.halves() {
+            Some(halves) => {
+                for half in halves {
+                    self.visit(edge, half);
+                }
+            }
+            None => {
+                let far = tree.upright_box().farthest_square(self.spot);
+                self.take(edge, near, far);
+            }
+        }
+    }
+
+    /// Joins the bounds of one leaf to those so far.
+    fn take(&mut self, edge: usize, lo: i64, hi: i64) {
+        self.best = Some(match self.best {
+            None => Nearest { lo, hi, edge },
+            Some(old) => Nearest {
+                lo: old.lo.min(lo),
+                hi: old.hi.min(hi),
+                edge: if hi < old.hi { edge } else { old.edge },
+            },
+        });
+    }
 }

@@ -2,50 +2,69 @@
 //! that are whole, longer, short or changed. A test program of another
 //! implementation asks the same and is compared with the text.
 
-use crate::entries::point;
+use crate::entries::point_with_reads;
 use crate::job::Job;
 use crate::listing;
-use crate::trees::{grow, store_numbers};
+use crate::trees::{grow, store_numbers, NUMBERS_A_NODE};
 
 /// The point that the damaged stores are asked about.
 const SPOT: [i32; 2] = [3, 4];
+/// Numbers of a node without its box.
+const NUMBERS_WITHOUT_BOX: usize = 7;
 
 /// The answers, a line each.
 pub fn battery(job: &Job) -> String {
     let store = grow(job).map_or_else(|_| Vec::new(), |trees| store_numbers(&trees));
-    let spots = spots(job).map(|spot| answer(job, spot, &store));
-    let stores = stores(&store).map(|store| answer(job, SPOT, &store));
-    [spots.concat(), stores.concat()].concat()
+    let mut text = String::new();
+    for spot in spots(job) {
+        text += &answer(job, spot, &store);
+    }
+    for store in stores(&store) {
+        text += &answer(job, SPOT, &store);
+    }
+    text
 }
 
-/// Points in, on and past the range, and on the outline. The last numbers of a
-/// line's place are zeros, so there the fifth is the origin again.
-fn spots(job: &Job) -> [[i32; 2]; 8] {
+/// Points in, on and past the range, and those of the first edge's place. The
+/// last numbers of a line's place are zeros, so there two are the origin again.
+fn spots(job: &Job) -> [[i32; 2]; 10] {
+    let [x0, y0, x1, y1, x2, y2, x3, y3, ..] = job.places;
     [
         [0, 0],
         SPOT,
         [job.x, job.y],
-        [job.places[0], job.places[1]],
-        [job.places[6], job.places[7]],
+        [x0, y0],
+        [x1, y1],
+        [x2, y2],
+        [x3, y3],
         [1_000_000, -1_000_000],
         [1_000_001, 0],
         [0, -1_000_001],
     ]
 }
 
-/// One number more, one less, none, and the first, middle and last one changed.
-fn stores(store: &[i32]) -> [Vec<i32>; 6] {
-    let last = store.len().saturating_sub(1);
-    [
+/// One number more, one less, none; then each number of the first, the middle
+/// and the last node changed, one at a time; then nodes without their boxes.
+/// Those with a change are made only as they are asked, since each may be large.
+fn stores(store: &[i32]) -> impl Iterator<Item = Vec<i32>> + '_ {
+    let nodes = store.len() / NUMBERS_A_NODE;
+    let lengths = [
         [store, &[0]].concat(),
-        store[..last].to_vec(),
+        store[..store.len().saturating_sub(1)].to_vec(),
         Vec::new(),
-        changed(store, 0),
-        changed(store, store.len() / 2),
-        changed(store, last),
-    ]
+    ];
+    let numbers = [0, nodes / 2, nodes.saturating_sub(1)]
+        .into_iter()
+        .flat_map(|node| (0..NUMBERS_A_NODE).map(move |place| NUMBERS_A_NODE * node + place));
+    let changes = numbers.map(|index| changed(store, index));
+    lengths
+        .into_iter()
+        .chain(changes)
+        .chain([without_boxes(store)])
 }
 
+/// The store with one number raised by 1; the empty store as it is. The numbers
+/// of a store are far from the end of 32 bits.
 fn changed(store: &[i32], index: usize) -> Vec<i32> {
     let mut store = store.to_vec();
     if let Some(number) = store.get_mut(index) {
@@ -54,6 +73,15 @@ fn changed(store: &[i32], index: usize) -> Vec<i32> {
     store
 }
 
+fn without_boxes(store: &[i32]) -> Vec<i32> {
+    let nodes = store.chunks(NUMBERS_A_NODE);
+    nodes
+        .flat_map(|node| &node[..NUMBERS_WITHOUT_BOX])
+        .copied()
+        .collect()
+}
+
 fn answer(job: &Job, [x, y]: [i32; 2], store: &[i32]) -> String {
-    point(job, x, y, store).map_or_else(listing::refusal, |nearest| listing::point(&nearest))
+    point_with_reads(job, x, y, store)
+        .map_or_else(listing::refusal, |lookup| listing::point_and_reads(&lookup))
 }

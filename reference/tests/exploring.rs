@@ -7,6 +7,7 @@ mod common;
 
 use clearance_reference::explore::{strip_answer, Answer, Cell};
 use clearance_reference::strips::Strip;
+use clearance_reference::trees::NUMBERS_A_NODE;
 use clearance_reference::Job;
 use common::jobs::random_job;
 use common::random::Xorshift;
@@ -175,10 +176,10 @@ fn stretch(store: &[i32], cell: &Square, r: i128, notes: &mut Notes) -> u8 {
     let mut answers = Vec::new();
     let mut rest = store;
     while !rest.is_empty() {
-        let (tree, after) = rest.split_at(7 * rest[6] as usize);
+        let (tree, after) = rest.split_at(NUMBERS_A_NODE * rest[6] as usize);
         let own = Node::of(tree).answer(cell, r, notes);
-        answers.push(if own == b'D' && tree.len() > 7 {
-            stretch(&tree[7..], cell, r, notes)
+        answers.push(if own == b'D' && tree.len() > NUMBERS_A_NODE {
+            stretch(&tree[NUMBERS_A_NODE..], cell, r, notes)
         } else {
             own
         });

@@ -54,7 +54,7 @@ fn wild_jobs_get_a_result_or_a_refusal() {
     const WILD: [i32; 9] = [i32::MIN, -LIMIT - 1, -1, 0, 1, 8, 20, LIMIT, i32::MAX];
     const COUNTS: [usize; 6] = [0, 1, 64, 65, usize::MAX / 8, usize::MAX];
     let mut rng = Xorshift::new(0x7f4a_7c15);
-    let mut store = vec![0; 20_000];
+    let mut store = vec![0; 30_000];
     let mut cells = vec![0; 65_536];
     let mut accepted = 0;
     for _ in 0..20_000 {

@@ -40,23 +40,25 @@ fn the_bend_and_its_halves() {
     assert_eq!(right, strip([114, 144], [72, 48], [6, 0]));
 }
 
-/// Its half sides are 96 + 24 and 96, and 120 is at most 16 * 8 = 128.
+/// Its half sides are 96 + 24 and 96, and 120 is at most 16 * 8 = 128. They are
+/// those of its box about (72, 96).
 #[test]
 fn the_bend_is_a_leaf_at_grain_8() {
     let done = finished(&job_with(&[edge(BEND_X, BEND_Y)], 8)).unwrap();
     assert_eq!(done.nodes, 1);
-    assert_eq!(done.store, [72, 96, 96, 96, 24, 0, 1]);
+    assert_eq!(done.store, [72, 96, 96, 96, 24, 0, 1, -48, 0, 192, 192]);
 }
 
-/// 120 exceeds 16 * 7 = 112; of the halves the right one is larger, 72 + 6.
+/// 120 exceeds 16 * 7 = 112; of the halves the right one is larger, 72 + 6. The
+/// box of the first node is that of its halves: its own strip starts at -48.
 #[test]
 fn the_bend_halves_at_grain_7() {
     let done = finished(&job_with(&[edge(BEND_X, BEND_Y)], 7)).unwrap();
     assert_eq!(done.nodes, 3);
     let wanted = [
-        [72, 96, 96, 96, 24, 0, 3],
-        [18, 48, 24, 48, 6, 0, 1],
-        [114, 144, 72, 48, 6, 0, 1],
+        [72, 96, 96, 96, 24, 0, 3, -12, 0, 192, 192],
+        [18, 48, 24, 48, 6, 0, 1, -12, 0, 48, 96],
+        [114, 144, 72, 48, 6, 0, 1, 36, 96, 192, 192],
     ];
     assert_eq!(done.store, wanted.as_flattened());
 }
@@ -80,6 +82,7 @@ fn the_long_edge_needs_grain_489() {
     assert_eq!(Strip::of(&long_edge(), last), wanted);
     let accepted = finished(&job_with(&[long_edge()], 489)).unwrap();
     assert_eq!(accepted.nodes, 2_047);
+    assert_eq!(accepted.store.len(), 22_517);
     let refused = finished(&job_with(&[long_edge()], 488));
     assert_eq!(refused.err(), Some(Refusal::Long));
 }
@@ -89,6 +92,7 @@ fn the_long_edge_needs_grain_489() {
 fn the_point_edge_asked_at_3_4() {
     let job = sample_job();
     let done = finished(&job).unwrap();
+    assert_eq!(done.store, [0, 0, 0, 0, 0, 0, 1, 0, 0, 0, 0]);
     let nearest = point(&job, 3, 4, &done.store).unwrap();
     assert_eq!((nearest.lo, nearest.hi, nearest.edge), (6_400, 6_400, 0));
 }

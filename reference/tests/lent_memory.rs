@@ -49,11 +49,11 @@ fn a_refused_map_changes_nothing() {
         (&no_edges, 100, 100),
         (&bad_reach, 100, 100),
         (&bad_cell, 100, 100),
-        (&long, 20_000, 70_000),
-        (&deep, 14_335, 70_000),
-        (&sample, 6, 70_000),
-        (&sample, 7, 63),
-        (&deep, 14_336, 63),
+        (&long, 30_000, 70_000),
+        (&deep, 22_527, 70_000),
+        (&sample, 10, 70_000),
+        (&sample, 11, 63),
+        (&deep, 22_528, 63),
     ] {
         let (accepted, store, cells) = map_over_marks(job, numbers, bytes);
         assert!(!accepted);

@@ -67,8 +67,8 @@ fn halves_go_up_and_add_to_the_box() {
 
     let done = finished(&job_with(&[slant], 1)).unwrap();
     assert_eq!(done.nodes, 31);
-    let leaf = done.store.chunks(7).find(|node| node[6] == 1).unwrap();
-    assert_eq!(leaf, [9, -8, 9, -8, 2, 2, 1]);
+    let leaf = done.store.chunks(11).find(|node| node[6] == 1).unwrap();
+    assert_eq!(leaf, [9, -8, 9, -8, 2, 2, 1, -2, -18, 20, 2]);
 }
 
 /// The coordinates are counted apart. In one of them both quotients are whole
@@ -101,7 +101,7 @@ fn a_line_of_one_point_draws_the_sample() {
     let job = read(sheet_with(POINT_LINE).as_bytes()).unwrap();
     assert_eq!(job, job_with(&[line([0; 4])], 1));
     let done = finished(&job).unwrap();
-    assert_eq!(done.store, [0, 0, 0, 0, 0, 0, 1]);
+    assert_eq!(done.store, [0, 0, 0, 0, 0, 0, 1, 0, 0, 0, 0]);
     assert_eq!(listing::map(&done.letters), SAMPLE_MAP);
     let nearest = point(&job, 3, 4, &done.store).unwrap();
     assert_eq!((nearest.lo, nearest.hi, nearest.edge), (6_400, 6_400, 0));
@@ -234,7 +234,7 @@ fn check_job(job: &Job, refusal: Refusal) {
     assert_eq!(judge(job), Err(refusal), "{job:?}");
     assert_eq!(write(job, &mut [0; 8_192]), Err(refusal));
     assert_eq!(map(job, &mut [0; 700], &mut [0; 64]), Err(refusal));
-    assert_eq!(point(job, 0, 0, &[0; 7]), Err(refusal));
+    assert_eq!(point(job, 0, 0, &[0; 11]), Err(refusal));
 }
 
 #[test]

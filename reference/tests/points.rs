@@ -7,7 +7,7 @@ use clearance_reference::{point, Job, Nearest, Refusal};
 use common::brute_force::{edge_points, outline_points, scaled_square, squared_distance};
 use common::jobs::random_job;
 use common::random::Xorshift;
-use common::{edge, finished, job_with, point_edge};
+use common::{edge, finished, job_with, line, point_edge};
 
 /// Squared distances in fine units, times the scale of outline points squared.
 fn least_distance(points: &[[i64; 2]], spot: [i32; 2]) -> i128 {
@@ -44,7 +44,7 @@ fn the_bounds_hold() {
 /// The definition again, straight from the numbers of the store.
 fn bounds_from_store(store: &[i32], spot: [i32; 2]) -> (i64, i64) {
     let (mut lo, mut hi) = (i64::MAX, i64::MAX);
-    for node in store.chunks(7).filter(|node| node[6] == 1) {
+    for node in store.chunks(11).filter(|node| node[6] == 1) {
         let node: Vec<i64> = node.iter().copied().map(i64::from).collect();
         let (mut near, mut far) = (0, 0);
         for c in 0..2 {
@@ -95,7 +95,7 @@ fn a_store_that_is_not_the_jobs() {
         for short in [0, 1, length / 2, length - 1] {
             assert_eq!(ask(&done.store[..short]), Err(Refusal::Store));
         }
-        for place in [0, 6, length / 2, length - 7, length - 1] {
+        for place in [0, 6, length / 2, length - 11, length - 5, length - 1] {
             for change in [1, -1, i32::MIN] {
                 let mut changed = done.store.clone();
                 changed[place] = changed[place].wrapping_add(change);
@@ -110,6 +110,60 @@ fn a_store_that_is_not_the_jobs() {
         maps += 1;
     }
     assert!(maps > 150);
+}
+
+/// Every number of every node is checked, the box of inner nodes as well.
+#[test]
+fn any_one_number_changed_is_a_stranger() {
+    let bend = edge([0, 0, 4, 12], [0, 4, 8, 12]);
+    let slant = line([0, 0, 17, -17]);
+    for (job, nodes) in [
+        (job_with(&[point_edge(0)], 1), 1),
+        (job_with(&[bend], 7), 3),
+        (job_with(&[bend, point_edge(9), slant], 1), 21 + 1 + 31),
+    ] {
+        let store = finished(&job).unwrap().store;
+        assert_eq!(store.len(), 11 * nodes);
+        assert!(point(&job, 3, 4, &store).is_ok());
+        for place in 0..store.len() {
+            for change in [1, -1] {
+                let mut changed = store.clone();
+                changed[place] += change;
+                assert_eq!(point(&job, 3, 4, &changed), Err(Refusal::Stranger));
+            }
+            assert_eq!(point(&job, 3, 4, &store[..place]), Err(Refusal::Store));
+        }
+    }
+}
+
+/// A store of nodes without boxes is too short by itself. With enough numbers
+/// after it, it is a stranger: no box ends at the least 32-bit number.
+#[test]
+fn a_store_without_boxes() {
+    let mut rng = Xorshift::new(0x7007_ab1e);
+    let mut maps = 0;
+    for _ in 0..200 {
+        let job = random_job(&mut rng, 0);
+        let Ok(done) = finished(&job) else { continue };
+        let nodes = done.store.chunks(11);
+        let mut store: Vec<i32> = nodes.flat_map(|node| &node[..7]).copied().collect();
+        assert_eq!(point(&job, 1, -1, &store), Err(Refusal::Store));
+        store.resize(done.store.len(), i32::MIN);
+        assert_eq!(point(&job, 1, -1, &store), Err(Refusal::Stranger));
+        maps += 1;
+    }
+    assert!(maps > 150);
+    // With zeros after it, as a program lends them. One node would not do here:
+    // the box of the point edge at 0 is zeros, too.
+    let job = job_with(&[edge([0, 0, 4, 12], [0, 4, 8, 12])], 7);
+    let store = finished(&job).unwrap().store;
+    let mut lent: Vec<i32> = store
+        .chunks(11)
+        .flat_map(|node| &node[..7])
+        .copied()
+        .collect();
+    lent.resize(16_379, 0);
+    assert_eq!(point(&job, 0, 0, &lent), Err(Refusal::Stranger));
 }
 
 #[test]

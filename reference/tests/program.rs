@@ -41,11 +41,13 @@ fn the_sample() {
     assert_eq!(printed(&["map"], SAMPLE_SHEET), SAMPLE_MAP);
     assert_eq!(printed(&["write"], SAMPLE_SHEET), SAMPLE_SHEET);
     let store = printed(&["store"], SAMPLE_SHEET);
-    assert_eq!(store, "(store 1\n0 0 0 0 0 0 1\n)\n");
+    assert_eq!(store, "(store 1\n0 0 0 0 0 0 1 0 0 0 0\n)\n");
     let point = printed(&["point", "3", "4"], SAMPLE_SHEET);
     assert_eq!(point, "(point 6400 6400 0)\n");
     let point = printed(&["point", "-3", "-4"], SAMPLE_SHEET);
     assert_eq!(point, "(point 6400 6400 0)\n");
+    let reads = printed(&["reads", "3", "4"], SAMPLE_SHEET);
+    assert_eq!(reads, "(reads 1)\n");
 }
 
 #[test]
@@ -63,7 +65,14 @@ fn refusals_of_the_sheet() {
             "(refused 4)\n",
         ),
     ] {
-        for arguments in [&["map"][..], &["store"], &["point", "0", "0"], &["write"]] {
+        for arguments in [
+            &["map"][..],
+            &["store"],
+            &["point", "0", "0"],
+            &["reads", "0", "0"],
+            &["write"],
+            &["probe"],
+        ] {
             assert_eq!(printed(arguments, sheet), wanted);
         }
     }
@@ -76,19 +85,40 @@ fn refusals_of_the_trees() {
     assert_eq!(printed(&["store"], &long), "(refused 5)\n");
     assert_eq!(printed(&["point", "0", "0"], &long), "(refused 5)\n");
     assert_eq!(printed(&["point", "1000001", "0"], &long), "(refused 3)\n");
+    assert_eq!(printed(&["reads", "0", "0"], &long), "(refused 5)\n");
+    assert_eq!(printed(&["reads", "1000001", "0"], &long), "(refused 3)\n");
     assert_eq!(printed(&["write"], &long), long);
 
-    // Two such edges at grain 489 have 4,094 nodes, more than are lent.
-    let line = "(edge (0 0) (333333 0) (666666 0) (999999 0))\n";
-    let fits = long_sheet(489);
-    let too_many = fits.replace(line, &line.repeat(2));
-    assert!(printed(&["map"], &fits).starts_with("(map 8\n"));
+    // At grain 489 it has 2,047 nodes, more than are lent, but they can be seen
+    // and asked.
+    let too_many = long_sheet(489);
     assert_eq!(printed(&["map"], &too_many), "(refused 6)\n");
     let store = printed(&["store"], &too_many);
-    assert!(store.starts_with("(store 4094\n"));
-    assert_eq!(store.lines().count(), 4_096);
+    assert!(store.starts_with("(store 2047\n"));
+    assert_eq!(store.lines().count(), 2_049);
+    let mut nodes = store.lines().skip(1).take(2_047);
+    assert!(nodes.all(|node| node.split(' ').count() == 11));
     let point = printed(&["point", "0", "0"], &too_many);
-    assert!(point.starts_with("(point 0 ") && point.ends_with(" 0)\n"));
+    assert_eq!(point, "(point 0 244140625 0)\n");
+    let reads = printed(&["reads", "500000", "0"], &too_many);
+    assert_eq!(reads, "(reads 1043)\n");
+}
+
+/// A level line of 2^d times 2 has pieces of depth d that just are short at
+/// grain 1, so 2^(d + 1) - 1 nodes: here 1,023, 255, 127, 63, 15, 3 and 3.
+#[test]
+fn the_lent_store_holds_1489_nodes() {
+    let lines: String = [1_024, 256, 128, 64, 16, 4, 4]
+        .iter()
+        .map(|length| format!("(line (0 0) ({length} 0))\n"))
+        .collect();
+    let point = "(edge (0 0) (0 0) (0 0) (0 0))\n";
+    let fits = SAMPLE_SHEET.replace(point, &lines);
+    assert!(printed(&["store"], &fits).starts_with("(store 1489\n"));
+    assert!(printed(&["map"], &fits).starts_with("(map 8\n"));
+    let one_more = SAMPLE_SHEET.replace(point, &(lines + point));
+    assert!(printed(&["store"], &one_more).starts_with("(store 1490\n"));
+    assert_eq!(printed(&["map"], &one_more), "(refused 6)\n");
 }
 
 #[test]
@@ -112,13 +142,17 @@ fn usage() {
         &["point", "1", "x"],
         &["point", "1", "99999999999"],
         &["point", "1", "2", "3"],
+        &["reads"],
+        &["reads", "1"],
+        &["reads", "x", "1"],
+        &["reads", "1", "2", "3"],
     ] {
         let output = run(arguments, SAMPLE_SHEET.as_bytes());
         assert_eq!(output.status.code(), Some(2), "{arguments:?}");
         assert!(output.stdout.is_empty() && !output.stderr.is_empty());
     }
     let help = printed(&["--help"], "");
-    for word in ["map", "store", "point X Y", "write"] {
+    for word in ["map", "store", "point X Y", "reads X Y", "write", "probe"] {
         assert!(help.contains(word));
     }
 }

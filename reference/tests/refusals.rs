@@ -7,6 +7,9 @@ use clearance_reference::{judge, map, point, read, write, Job, Refusal};
 use common::{edge, finished, job_with, just_short_edge, long_edge};
 use common::{point_edge, sample_job, SAMPLE_SHEET};
 
+/// The store of the sample job.
+const SAMPLE_STORE: [i32; 11] = [0, 0, 0, 0, 0, 0, 1, 0, 0, 0, 0];
+
 const EDGE_LINE: &str = "(edge (0 0) (0 0) (0 0) (0 0))\n";
 
 fn refused(sheet: &str) -> Option<Refusal> {
@@ -29,12 +32,12 @@ fn check_job(job: &Job, refusal: Refusal) {
     assert_eq!(write(job, &mut [0; 8_192]), Err(refusal));
     assert_eq!(write(job, &mut []), Err(refusal));
     assert_eq!(
-        map(job, &mut [0; 14_329], &mut [0; 65_536]),
+        map(job, &mut [0; 22_517], &mut [0; 65_536]),
         Err(refusal),
         "{job:?}"
     );
     assert_eq!(map(job, &mut [], &mut []), Err(refusal));
-    assert_eq!(point(job, 0, 0, &[0, 0, 0, 0, 0, 0, 1]), Err(refusal));
+    assert_eq!(point(job, 0, 0, &SAMPLE_STORE), Err(refusal));
     assert_eq!(point(job, 0, 0, &[]), Err(refusal));
 }
 
@@ -269,7 +272,7 @@ fn the_exponents_of_a_job() {
 
 #[test]
 fn the_spot_of_a_point() {
-    let store = [0, 0, 0, 0, 0, 0, 1];
+    let store = SAMPLE_STORE;
     let spots = [
         (1_000_001, 0),
         (-1_000_001, 0),
@@ -298,23 +301,24 @@ fn long_before_store_before_space() {
     assert_eq!(judge(&long), Ok(()));
     assert!(write(&long, &mut [0; 200]).is_ok());
     assert_eq!(map(&long, &mut [], &mut []), Err(Long));
-    assert_eq!(map(&long, &mut [0; 20_000], &mut [0; 64]), Err(Long));
+    assert_eq!(map(&long, &mut [0; 30_000], &mut [0; 64]), Err(Long));
     assert_eq!(point(&long, 0, 0, &[]), Err(Long));
-    assert_eq!(point(&long, 0, 0, &[1; 20_000]), Err(Long));
+    assert_eq!(point(&long, 0, 0, &[1; 30_000]), Err(Long));
 
     let job = sample_job();
     assert_eq!(map(&job, &mut [], &mut []), Err(Store));
-    assert_eq!(map(&job, &mut [0; 6], &mut [0; 64]), Err(Store));
-    assert_eq!(map(&job, &mut [0; 7], &mut []), Err(Space));
-    assert_eq!(map(&job, &mut [0; 7], &mut [0; 63]), Err(Space));
-    assert_eq!(map(&job, &mut [0; 7], &mut [0; 64]), Ok(1));
+    assert_eq!(map(&job, &mut [0; 10], &mut [0; 64]), Err(Store));
+    assert_eq!(map(&job, &mut [0; 11], &mut []), Err(Space));
+    assert_eq!(map(&job, &mut [0; 11], &mut [0; 63]), Err(Space));
+    assert_eq!(map(&job, &mut [0; 11], &mut [0; 64]), Ok(1));
     assert_eq!(point(&job, 0, 0, &[]), Err(Store));
-    assert_eq!(point(&job, 0, 0, &[9; 6]), Err(Store));
-    assert_eq!(point(&job, 0, 0, &[9; 7]), Err(Stranger));
+    assert_eq!(point(&job, 0, 0, &[9; 10]), Err(Store));
+    assert_eq!(point(&job, 0, 0, &[9; 11]), Err(Stranger));
+    assert!(point(&job, 0, 0, &SAMPLE_STORE).is_ok());
 
     let deep = job_with(&[long_edge()], 489);
     let needed = finished(&deep).unwrap().store.len();
-    assert_eq!(needed, 14_329);
+    assert_eq!(needed, 22_517);
     assert_eq!(map(&deep, &mut vec![0; needed - 1], &mut []), Err(Store));
     assert_eq!(map(&deep, &mut vec![0; needed], &mut []), Err(Space));
 }
@@ -327,11 +331,14 @@ fn pieces_that_just_fit_are_not_long() {
     let done = finished(&job_with(&[just_short_edge()], 3)).unwrap();
     assert_eq!((done.nodes, done.store[6]), (2_047, 2_047));
     assert_eq!(done.store[..6], [49_152, 0, 49_152, 0, 0, 0]);
-    assert_eq!(done.store[70..77], [48, 0, 48, 0, 0, 0, 1]);
-    assert_eq!(done.store[14_322..], [98_256, 0, 48, 0, 0, 0, 1]);
+    assert_eq!(done.store[7..11], [0, 0, 98_304, 0]);
+    let first_leaf = [48, 0, 48, 0, 0, 0, 1, 0, 0, 96, 0];
+    assert_eq!(done.store[110..121], first_leaf);
+    let last_leaf = [98_256, 0, 48, 0, 0, 0, 1, 98_208, 0, 98_304, 0];
+    assert_eq!(done.store[22_506..], last_leaf);
 
     let long = job_with(&[just_short_edge()], 2);
-    assert_eq!(map(&long, &mut [0; 20_000], &mut [0; 64]), Err(Long));
+    assert_eq!(map(&long, &mut [0; 30_000], &mut [0; 64]), Err(Long));
     assert_eq!(point(&long, 0, 0, &done.store), Err(Long));
     // Twice the length halves down the same way to 96, too much for grain 5.
     let twice = |grain| finished(&job_with(&[edge([0, 4_096, 8_192, 12_288], [0; 4])], grain));
@@ -343,13 +350,12 @@ fn pieces_that_just_fit_are_not_long() {
 #[test]
 fn a_store_with_other_pads_is_a_stranger() {
     let job = job_with(&[edge([0, 0, 4, 12], [0, 4, 8, 12])], 8);
-    assert!(point(&job, 0, 0, &[72, 96, 96, 96, 24, 0, 1]).is_ok());
-    let padded = [72, 96, 96, 96, 26, 2, 1];
+    let own = [72, 96, 96, 96, 24, 0, 1, -48, 0, 192, 192];
+    assert!(point(&job, 0, 0, &own).is_ok());
+    let padded = [72, 96, 96, 96, 26, 2, 1, -50, -2, 194, 194];
     assert_eq!(point(&job, 0, 0, &padded), Err(Stranger));
-    assert_eq!(
-        point(&sample_job(), 0, 0, &[0, 0, 0, 0, 2, 2, 1]),
-        Err(Stranger)
-    );
+    let padded = [0, 0, 0, 0, 2, 2, 1, -2, -2, 2, 2];
+    assert_eq!(point(&sample_job(), 0, 0, &padded), Err(Stranger));
 }
 
 #[test]

@@ -19,10 +19,10 @@ fn the_sample_sheet_is_written() {
 
 #[test]
 fn the_sample_map_is_drawn() {
-    let mut store = [-1; 8];
+    let mut store = [-1; 12];
     let mut cells = [b'?'; 66];
     assert_eq!(map(&sample_job(), &mut store, &mut cells), Ok(1));
-    assert_eq!(store, [0, 0, 0, 0, 0, 0, 1, -1]);
+    assert_eq!(store, [0, 0, 0, 0, 0, 0, 1, 0, 0, 0, 0, -1]);
     assert_eq!(listing::map(&cells[..64]), SAMPLE_MAP);
     assert_eq!(cells[64..], *b"??");
 }

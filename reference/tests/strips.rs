@@ -461,5 +461,5 @@ fn the_largest_store() {
     let done = finished(&job_with(&[long_edge(); 64], 489)).unwrap();
     assert_eq!(done.nodes, 131_008);
     assert_eq!(done.store.len(), STORE_LIMIT);
-    assert_eq!(STORE_LIMIT, 917_056);
+    assert_eq!(STORE_LIMIT, 1_441_088);
 }

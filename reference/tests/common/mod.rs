@@ -1,11 +1,13 @@
 //! What the tests share: a generator of numbers, jobs of many shapes, a second
-//! way to a cubic's strip, and the exact check of a finished map.
+//! way to a cubic's strip, another to a point's bounds and reads, and the exact
+//! check of a finished map.
 
 // Each test file uses its own part of this.
 #![allow(dead_code)]
 
 pub mod brute_force;
 pub mod jobs;
+pub mod plain;
 pub mod random;
 pub mod reckoning;
 
