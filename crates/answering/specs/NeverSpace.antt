@@ -48,13 +48,13 @@ unfolding answered
 answer-other zero j h f e = map-other (columns j) (mapOf j) e
 answer-other (suc k) j h f e = f (seven (suc k) h e)
 
-few-numbers : (j : Job) → mapRefusal j (replicate 16380 (pos 0)) (replicate 65536 0) < 10
+few-numbers : (j : Job) → mapRefusal j (replicate 16379 (pos 0)) (replicate 65536 0) < 10
 unfolding mapRefusal
-few-numbers j = one-digit (mapChecks j (replicate 16380 (pos 0)) (replicate 65536 0))
+few-numbers j = one-digit (mapChecks j (replicate 16379 (pos 0)) (replicate 65536 0))
 
 map-answer-other : (k : ℕ) (j : Job) → k < 10 → (k ≡ 7 → ⊥) → mapAnswered k j ≡ bytes "(refused 7)\n" → ⊥
 unfolding mapAnswered
-map-answer-other zero j h f e = answer-other (mapRefusal j (replicate 16380 (pos 0)) (replicate 65536 0)) j (few-numbers j) (lent-room j) e
+map-answer-other zero j h f e = answer-other (mapRefusal j (replicate 16379 (pos 0)) (replicate 65536 0)) j (few-numbers j) (lent-room j) e
 map-answer-other (suc k) j h f e = answer-other (suc k) j h f e
 
 pub never-space : NeverSpace

@@ -15,13 +15,13 @@ ghost use Rattle.formatting.specs.Puts.{Put};
 ghost use Rattle.streams.specs.Reading.{Counts};
 ghost use Rattle.streams.specs.Inputs.{Handed};
 
-// The answer to a job, with 16,380 numbers and 65,536 bytes lent to the library. A map of 256 cells a side takes 67,344 bytes at most.
+// The answer to a job, with 16,379 numbers and 65,536 bytes lent to the library. A map of 256 cells a side takes 67,344 bytes at most.
 fn put_answer(job: Job, out: &mut [u8]) -> usize
     requires space { ⌜ 67344 ≤ length (now out) ⌝ }
     ensures wrote { λ r. ⌜ Put (now (out .entry)) (now (out .exit)) 0 r (mapAnswered 0 job) ⌝ }
     ensures bound { λ r. ⌜ r ≤ 67344 ⌝ }
 {
-    let mut store = [0i32; 16380];
+    let mut store = [0i32; 16379];
     let mut cells = [0u8; 65536];
     let done = clearance::map(job, &mut store, &mut cells);
     let refusal = done.refusal;

@@ -1,14 +1,13 @@
 -- RULES, "Distance": the bounds of a point's squared distance, in fine units, and the edges that may be named. Assumes nothing.
 use mathlib.Core.Path.{_≡_}
-use mathlib.Core.Bool.{cond}
 use mathlib.Core.List.{List, [], _∷_, _++_}
 use mathlib.Core.Logic.{_⊎_}
 use Prim.Native.Nat.{ℕ, zero, suc}
-use lib.IntN.{ℤ, pos, _*ℤ_}
-use lib.Signed.{ltZ}
+use lib.IntN.{ℤ, pos, _-ℤ_, _*ℤ_}
 use Rattle.model.specs.Strips.{Strip}
 use Rattle.model.specs.Trees.{Tree, leaf, long, node}
-use Rattle.model.specs.Explore.{Cell, farthest², closest²}
+use Rattle.model.specs.Boxes.{Span, Box, lesser, greater}
+use Rattle.model.specs.Explore.{Cell, atLeast0, squares, farthest², closest²}
 
 -- a point as the cell of half side 0 in fine units
 abbrev pub spot : ℤ → ℤ → Cell
@@ -25,9 +24,6 @@ leavesAll [] = []
 leavesAll (t ∷ ts) = leaves t ++ leavesAll ts
 
 -- ---- the least value of f; a list that is empty has none, and gives 0
-abbrev pub lesser : ℤ → ℤ → ℤ
-lesser a b = cond (ltZ b a) b a
-
 unfoldable pub least : (Strip → ℤ) → List Strip → ℤ
 least f [] = pos 0
 least f (s ∷ []) = f s
@@ -52,3 +48,16 @@ Some P (s ∷ ss) = P s ⊎ Some P ss
 
 abbrev pub Attains : List Tree → ℤ → ℤ → ℕ → Type 0
 Attains ts x y e = Some (λ s. farthest² (spot x y) s ≡ hi ts x y) (leavesAt ts e)
+
+-- ---- how near a point is to an upright box, and how far from it, in fine units: in one coordinate and then squared
+abbrev pub near : ℤ → Span → ℤ
+near c b = atLeast0 (greater (b .least -ℤ c) (c -ℤ b .greatest))
+
+abbrev pub far : ℤ → Span → ℤ
+far c b = greater (c -ℤ b .least) (b .greatest -ℤ c)
+
+abbrev pub near² : Cell → Box → ℤ
+near² p b = squares (near (p .cx) (b .x)) (near (p .cy) (b .y))
+
+abbrev pub far² : Cell → Box → ℤ
+far² p b = squares (far (p .cx) (b .x)) (far (p .cy) (b .y))

@@ -85,21 +85,23 @@ abbrev pub long : ℤ → Job
 long m = job (pos 0) (pos 0) (pos 1) m (pos 1) (pos 1) 1 (pos 0 ∷ pos 0 ∷ pos 333333 ∷ pos 0 ∷ pos 666666 ∷ pos 0 ∷ pos 999999 ∷ pos 0 ∷ [])
 
 abbrev pub soundStore : List ℤ
-soundStore = pos 0 ∷ pos 0 ∷ pos 0 ∷ pos 0 ∷ pos 0 ∷ pos 0 ∷ pos 1 ∷ []
+soundStore = pos 0 ∷ pos 0 ∷ pos 0 ∷ pos 0 ∷ pos 0 ∷ pos 0 ∷ pos 1 ∷ pos 0 ∷ pos 0 ∷ pos 0 ∷ pos 0 ∷ []
 
 -- point edges at (0, 0) and (10, 7)
 abbrev pub pair : Job
 pair = job (pos 0) (pos 0) (pos 1) (pos 0) (pos 9) (pos 10) 2 (replicate 8 (pos 0) ++ (pos 10 ∷ pos 7 ∷ pos 10 ∷ pos 7 ∷ pos 10 ∷ pos 7 ∷ pos 10 ∷ pos 7 ∷ []))
 
 abbrev pub pairStore : List ℤ
-pairStore = soundStore ++ (pos 160 ∷ pos 112 ∷ pos 0 ∷ pos 0 ∷ pos 0 ∷ pos 0 ∷ pos 1 ∷ [])
+pairStore = soundStore ++ (pos 160 ∷ pos 112 ∷ pos 0 ∷ pos 0 ∷ pos 0 ∷ pos 0 ∷ pos 1 ∷ pos 160 ∷ pos 112 ∷ pos 160 ∷ pos 112 ∷ [])
 
 -- a point edge at (10, 7), and a slanted line
 abbrev pub ruled : Job
 ruled = mixedJob (pos 0) (pos 0) (pos 1) (pos 0) (pos 9) (pos 4) 2 (pos 10 ∷ pos 7 ∷ pos 10 ∷ pos 7 ∷ pos 10 ∷ pos 7 ∷ pos 10 ∷ pos 7 ∷ pos 11 ∷ pos 16 ∷ pos 13 ∷ pos 14 ∷ []) (pos 0 ∷ pos 1 ∷ [])
 
 abbrev pub ruledStore : List ℤ
-ruledStore = pos 160 ∷ pos 112 ∷ pos 0 ∷ pos 0 ∷ pos 0 ∷ pos 0 ∷ pos 1 ∷ pos 192 ∷ pos 240 ∷ pos 16 ∷ negsuc 15 ∷ pos 0 ∷ pos 0 ∷ pos 1 ∷ []
+ruledStore =
+    pos 160 ∷ pos 112 ∷ pos 0 ∷ pos 0 ∷ pos 0 ∷ pos 0 ∷ pos 1 ∷ pos 160 ∷ pos 112 ∷ pos 160 ∷ pos 112
+    ∷ pos 192 ∷ pos 240 ∷ pos 16 ∷ negsuc 15 ∷ pos 0 ∷ pos 0 ∷ pos 1 ∷ pos 176 ∷ pos 224 ∷ pos 208 ∷ pos 256 ∷ []
 
 abbrev pub answer : ℕ → ℤ → ℤ → ℕ → Nearest
 answer k l h e = record { refusal = k; lo = l; hi = h; edge = e }
@@ -146,19 +148,19 @@ writeFigures =
 -- ---- drawing
 abbrev pub mapFigures : List Figure
 mapFigures =
-    maps sound (replicate 9 (pos 5)) (replicate 6 5) (record { refusal = 0; nodes = 1 }) (soundStore ++ (pos 5 ∷ pos 5 ∷ [])) (bytes "IIII" ++ (5 ∷ 5 ∷ []))
-    ∷ maps sound (replicate 7 (pos 5)) (replicate 4 5) (record { refusal = 0; nodes = 1 }) soundStore (bytes "IIII")
-    ∷ maps sound (replicate 6 (pos 5)) (replicate 4 5) (record { refusal = 6; nodes = 0 }) (replicate 6 (pos 5)) (replicate 4 5)
-    ∷ maps sound (replicate 7 (pos 5)) (replicate 3 5) (record { refusal = 7; nodes = 0 }) (replicate 7 (pos 5)) (replicate 3 5)
+    maps sound (replicate 13 (pos 5)) (replicate 6 5) (record { refusal = 0; nodes = 1 }) (soundStore ++ (pos 5 ∷ pos 5 ∷ [])) (bytes "IIII" ++ (5 ∷ 5 ∷ []))
+    ∷ maps sound (replicate 11 (pos 5)) (replicate 4 5) (record { refusal = 0; nodes = 1 }) soundStore (bytes "IIII")
+    ∷ maps sound (replicate 10 (pos 5)) (replicate 4 5) (record { refusal = 6; nodes = 0 }) (replicate 10 (pos 5)) (replicate 4 5)
+    ∷ maps sound (replicate 11 (pos 5)) (replicate 3 5) (record { refusal = 7; nodes = 0 }) (replicate 11 (pos 5)) (replicate 3 5)
     ∷ map-refused (small off 0 (pos 2)) 0 0 2
     ∷ map-refused (small off 1 (pos 2)) 0 0 3
     ∷ map-refused (long (pos 2)) 0 0 4
     ∷ map-refused (long (pos 0)) 0 0 5
     ∷ map-refused sound 0 0 6
-    ∷ map-refused sound 7 0 7
+    ∷ map-refused sound 11 0 7
     -- two nodes
-    ∷ map-refused (small (pos 0) 2 (pos 0)) 13 4 6
-    ∷ map-refused (small (pos 0) 2 (pos 0)) 14 4 0
+    ∷ map-refused (small (pos 0) 2 (pos 0)) 21 4 6
+    ∷ map-refused (small (pos 0) 2 (pos 0)) 22 4 0
     ∷ []
 
 -- ---- asking
@@ -175,8 +177,8 @@ pointFigures =
     ∷ point-refused (small (pos 0) 1 (pos 2)) off (pos 0) [] 3
     ∷ point-refused (long (pos 2)) (pos 0) (pos 0) [] 4
     ∷ point-refused (long (pos 0)) (pos 0) (pos 0) [] 5
-    ∷ point-refused sound (pos 0) (pos 0) (replicate 6 (pos 5)) 6
-    ∷ point-refused sound (pos 0) (pos 0) (replicate 7 (pos 5)) 8
+    ∷ point-refused sound (pos 0) (pos 0) (replicate 10 (pos 5)) 6
+    ∷ point-refused sound (pos 0) (pos 0) (replicate 11 (pos 5)) 8
     ∷ point-of sound (pos 3) (pos 4) (soundStore ++ (pos 5 ∷ [])) (record { refusal = 0; lo = pos 6400; hi = pos 6400; edge = 0 })
     -- the nearer of two edges, where x and y exchanged, or one of them in place of the other, would name the other edge
     ∷ point-of pair (pos 9) (pos 1) pairStore (record { refusal = 0; lo = pos 9472; hi = pos 9472; edge = 1 })
@@ -190,22 +192,22 @@ pointFigures =
     ∷ not-point-of sound off (pos 4) soundStore (answer 3 (pos 0) (pos 0) 1)
     ∷ point-of sound off (pos 4) soundStore (refused 3)
     ∷ point-of sound (pos 3) (pos 4) [] (refused 6)
-    ∷ point-of sound (pos 3) (pos 4) (replicate 7 (pos 2)) (refused 8)
+    ∷ point-of sound (pos 3) (pos 4) (replicate 11 (pos 2)) (refused 8)
     ∷ []
 
 -- ---- printing
 abbrev pub printFigures : List Figure
 printFigures =
-    lends 16380 65536
+    lends 16379 65536
     -- rows from the lowest, letters from the left
     ∷ prints "(job\n(plate 0 0 4)\n(cell 2)\n(reach 7)\n(grain 1)\n(edge (2 14) (2 14) (2 14) (2 14))\n)\n" "(map 4\n(row CCCC)\n(row DDCC)\n(row IDDC)\n(row IIDC)\n)\n"
     ∷ prints "(job\n(plate 0 0 0)\n(cell 0)\n(reach 1)\n)\n" "(refused 2)\n"
     ∷ prints "(job\n(plate 0 0 0)\n(cell 0)\n(reach 1)\n(grain 1)\n(edge (0 0) (333333 0) (666666 0) (999999 0))\n)\n" "(refused 5)\n"
     -- 256 · 256 cells are drawn
     ∷ prints-first "(job\n(plate 0 0 8)\n(cell 0)\n(reach 1)\n(edge (0 0) (0 0) (0 0) (0 0))\n)\n" "(map 256\n"
-    -- 2,340 nodes, and 2,341
-    ∷ prints "(job\n(plate 0 0 0)\n(cell 0)\n(reach 1)\n(grain 489)\n(edge (0 0) (333333 0) (666666 0) (999999 0))\n(edge (0 0) (41000 0) (82000 0) (123000 0))\n(edge (0 0) (5000 0) (10000 0) (15000 0))\n(edge (0 0) (1000 0) (2000 0) (3000 0))\n)\n" "(map 1\n(row D)\n)\n"
-    ∷ prints "(job\n(plate 0 0 0)\n(cell 0)\n(reach 1)\n(grain 489)\n(edge (0 0) (333333 0) (666666 0) (999999 0))\n(edge (0 0) (41000 0) (82000 0) (123000 0))\n(edge (0 0) (5000 0) (10000 0) (15000 0))\n(edge (0 0) (1000 0) (2000 0) (3000 0))\n(edge (0 0) (0 0) (0 0) (0 0))\n)\n" "(refused 6)\n"
+    -- 1,489 nodes, and 1,490
+    ∷ prints "(job\n(plate 0 0 0)\n(cell 0)\n(reach 1)\n(grain 489)\n(edge (0 0) (150000 0) (300000 0) (450000 0))\n(edge (0 0) (41000 0) (82000 0) (123000 0))\n(edge (0 0) (20000 0) (40000 0) (60000 0))\n(edge (0 0) (10000 0) (20000 0) (30000 0))\n(edge (0 0) (2000 0) (4000 0) (6000 0))\n(edge (0 0) (500 0) (1000 0) (1500 0))\n(edge (0 0) (500 0) (1000 0) (1500 0))\n)\n" "(map 1\n(row D)\n)\n"
+    ∷ prints "(job\n(plate 0 0 0)\n(cell 0)\n(reach 1)\n(grain 489)\n(edge (0 0) (150000 0) (300000 0) (450000 0))\n(edge (0 0) (41000 0) (82000 0) (123000 0))\n(edge (0 0) (20000 0) (40000 0) (60000 0))\n(edge (0 0) (10000 0) (20000 0) (30000 0))\n(edge (0 0) (2000 0) (4000 0) (6000 0))\n(edge (0 0) (500 0) (1000 0) (1500 0))\n(edge (0 0) (500 0) (1000 0) (1500 0))\n(edge (0 0) (0 0) (0 0) (0 0))\n)\n" "(refused 6)\n"
     ∷ []
 
 -- ---- the statements

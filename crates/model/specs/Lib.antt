@@ -14,9 +14,10 @@ pub mod Numbers
 pub mod Forms
 pub mod Layouts
 pub mod Sheets
--- ---- strips, strip trees and the store
+-- ---- strips, strip trees, the boxes around their leaves, and the store
 pub mod Strips
 pub mod Trees
+pub mod Boxes
 pub mod Store
 -- ---- exploring the plate
 pub mod Roots
@@ -25,8 +26,9 @@ pub mod Plates
 -- ---- what a map means
 pub mod Fractions
 pub mod Exact
--- ---- the distance of a point
+-- ---- the distance of a point, and how it is looked up
 pub mod Distance
+pub mod Lookup
 -- ---- what each public entry answers and leaves, and the cases in which it refuses
 pub mod Entries
 pub mod Cases

@@ -30,7 +30,7 @@ mapText n cells = writeForm mapForm (pos n ∷ []) ++ (rowsText n n cells ++ byt
 -- ---- whole: the program lends the library this many numbers for the trees and this many bytes for the letters, and neither is looked at before
 -- it is written
 abbrev pub storeLent : ℕ
-storeLent = 16380
+storeLent = 16379
 
 abbrev pub cellsLent : ℕ
 cellsLent = 65536

@@ -180,9 +180,9 @@ MapRoom = (j : Job) (store : List ℤ) (cells : List ℕ) → 65536 ≤ length c
 abbrev pub MapFills : Type 0
 MapFills = (j : Job) × Whole j × (judge j ≡ 0) × (cellsOf j ≡ 65536)
 
--- 917,056 numbers for a store: no map and no point is refused 6; and a job that has as many, 7 for each of 2,047 nodes of 64 trees
+-- 1,441,088 numbers for a store: no map and no point is refused 6; and a job that has as many, 11 for each of 2,047 nodes of 64 trees
 abbrev pub StoreRoom : Type 0
-StoreRoom = (j : Job) (store : List ℤ) → 917056 ≤ length store → ((cells : List ℕ) → mapRefusal j store cells ≡ 6 → ⊥) × ((x y : ℤ) → pointRefusal j x y store ≡ 6 → ⊥)
+StoreRoom = (j : Job) (store : List ℤ) → 1441088 ≤ length store → ((cells : List ℕ) → mapRefusal j store cells ≡ 6 → ⊥) × ((x y : ℤ) → pointRefusal j x y store ≡ 6 → ⊥)
 
 abbrev pub StoreFills : Type 0
 StoreFills = (j : Job) × Whole j × (judge j ≡ 0) × (anyLong (forest j) ≡ false) × (nodesOf j ≡ 131008)

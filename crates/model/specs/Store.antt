@@ -1,4 +1,4 @@
--- RULES, "Store": a job's trees as numbers, seven a node, in preorder. Assumes nothing.
+-- RULES, "Store": a job's trees as numbers, eleven a node, in preorder. Assumes nothing.
 use mathlib.Core.Bool.{Bool, true, false, _&&_}
 use mathlib.Core.List.{List, [], _∷_, _++_}
 use Prim.Native.Nat.{ℕ, suc, _+_}
@@ -8,10 +8,11 @@ use Rattle.model.specs.Jobs.{outline}
 use Rattle.model.specs.Sheets.{same}
 use Rattle.model.specs.Strips.{Strip}
 use Rattle.model.specs.Trees.{Tree, leaf, long, node, trees}
+use Rattle.model.specs.Boxes.{Box, upright, around, boxOf}
 
 -- the numbers of a node
 abbrev pub width : ℕ
-width = 7
+width = 11
 
 -- ---- the nodes of a tree, itself included, and of several
 abbrev pub size : Tree → ℕ
@@ -23,15 +24,18 @@ abbrev pub sizes : List Tree → ℕ
 sizes [] = 0
 sizes (t ∷ ts) = size t + sizes ts
 
--- ---- the numbers of a node with n nodes in its subtree, and then the rest
-abbrev pub numbers : Strip → ℕ → List ℤ → List ℤ
-numbers s n rest = s .x .centre ∷ s .y .centre ∷ s .x .axis ∷ s .y .axis ∷ s .x .box ∷ s .y .box ∷ pos n ∷ rest
+-- ---- the numbers of a node with n nodes in its subtree and b around its leaves, and then the rest
+abbrev pub numbers : Strip → ℕ → Box → List ℤ → List ℤ
+numbers s n b rest =
+    s .x .centre ∷ s .y .centre ∷ s .x .axis ∷ s .y .axis ∷ s .x .box ∷ s .y .box ∷ pos n
+    ∷ b .x .least ∷ b .y .least ∷ b .x .greatest ∷ b .y .greatest
+    ∷ rest
 
 -- a node, then its left half's subtree, then its right half's
 abbrev pub flatten : Tree → List ℤ
-flatten (leaf s) = numbers s 1 []
-flatten (long s) = numbers s 1 []
-flatten (node s l r) = numbers s (suc (size l + size r)) (flatten l ++ flatten r)
+flatten (leaf s) = numbers s 1 (upright s) []
+flatten (long s) = numbers s 1 (upright s) []
+flatten (node s l r) = numbers s (suc (size l + size r)) (around (boxOf l) (boxOf r)) (flatten l ++ flatten r)
 
 -- one tree after the other
 abbrev pub flattenAll : List Tree → List ℤ

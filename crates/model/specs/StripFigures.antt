@@ -111,17 +111,17 @@ stripFigures =
     ∷ pieces-of (pos 1) 1 15 6 (node (shown 15 6) (long (shown 16 12)) (long (shown 16 13)))
     -- left halves before right ones, at each depth
     ∷ tree-of (pos 6) leaning
-    (pos 209 ∷ pos 22 ∷ pos 305 ∷ negsuc 95 ∷ pos 128 ∷ pos 38 ∷ pos 11
-    ∷ pos 33 ∷ pos 80 ∷ pos 47 ∷ negsuc 14 ∷ pos 20 ∷ pos 15 ∷ pos 1
-    ∷ pos 330 ∷ negsuc 19 ∷ pos 269 ∷ negsuc 74 ∷ pos 43 ∷ pos 3 ∷ pos 9
-    ∷ pos 186 ∷ pos 18 ∷ pos 96 ∷ negsuc 35 ∷ pos 10 ∷ pos 3 ∷ pos 3
-    ∷ pos 136 ∷ pos 36 ∷ pos 40 ∷ negsuc 16 ∷ pos 4 ∷ pos 2 ∷ pos 1
-    ∷ pos 232 ∷ pos 0 ∷ pos 56 ∷ negsuc 18 ∷ pos 4 ∷ pos 2 ∷ pos 1
-    ∷ pos 454 ∷ negsuc 57 ∷ pos 175 ∷ negsuc 38 ∷ pos 13 ∷ pos 2 ∷ pos 5
-    ∷ pos 364 ∷ negsuc 38 ∷ pos 76 ∷ negsuc 19 ∷ pos 5 ∷ pos 2 ∷ pos 1
-    ∷ pos 538 ∷ negsuc 76 ∷ pos 99 ∷ negsuc 18 ∷ pos 5 ∷ pos 2 ∷ pos 3
-    ∷ pos 488 ∷ negsuc 67 ∷ pos 46 ∷ negsuc 9 ∷ pos 3 ∷ pos 2 ∷ pos 1
-    ∷ pos 587 ∷ negsuc 86 ∷ pos 52 ∷ negsuc 8 ∷ pos 3 ∷ pos 2 ∷ pos 1 ∷ [])
+    (pos 209 ∷ pos 22 ∷ pos 305 ∷ negsuc 95 ∷ pos 128 ∷ pos 38 ∷ pos 11 ∷ negsuc 33 ∷ negsuc 97 ∷ pos 642 ∷ pos 110
+    ∷ pos 33 ∷ pos 80 ∷ pos 47 ∷ negsuc 14 ∷ pos 20 ∷ pos 15 ∷ pos 1 ∷ negsuc 33 ∷ pos 50 ∷ pos 100 ∷ pos 110
+    ∷ pos 330 ∷ negsuc 19 ∷ pos 269 ∷ negsuc 74 ∷ pos 43 ∷ pos 3 ∷ pos 9 ∷ pos 92 ∷ negsuc 97 ∷ pos 642 ∷ pos 55
+    ∷ pos 186 ∷ pos 18 ∷ pos 96 ∷ negsuc 35 ∷ pos 10 ∷ pos 3 ∷ pos 3 ∷ pos 92 ∷ negsuc 20 ∷ pos 292 ∷ pos 55
+    ∷ pos 136 ∷ pos 36 ∷ pos 40 ∷ negsuc 16 ∷ pos 4 ∷ pos 2 ∷ pos 1 ∷ pos 92 ∷ pos 17 ∷ pos 180 ∷ pos 55
+    ∷ pos 232 ∷ pos 0 ∷ pos 56 ∷ negsuc 18 ∷ pos 4 ∷ pos 2 ∷ pos 1 ∷ pos 172 ∷ negsuc 20 ∷ pos 292 ∷ pos 21
+    ∷ pos 454 ∷ negsuc 57 ∷ pos 175 ∷ negsuc 38 ∷ pos 13 ∷ pos 2 ∷ pos 5 ∷ pos 283 ∷ negsuc 97 ∷ pos 642 ∷ negsuc 16
+    ∷ pos 364 ∷ negsuc 38 ∷ pos 76 ∷ negsuc 19 ∷ pos 5 ∷ pos 2 ∷ pos 1 ∷ pos 283 ∷ negsuc 60 ∷ pos 445 ∷ negsuc 16
+    ∷ pos 538 ∷ negsuc 76 ∷ pos 99 ∷ negsuc 18 ∷ pos 5 ∷ pos 2 ∷ pos 3 ∷ pos 439 ∷ negsuc 97 ∷ pos 642 ∷ negsuc 55
+    ∷ pos 488 ∷ negsuc 67 ∷ pos 46 ∷ negsuc 9 ∷ pos 3 ∷ pos 2 ∷ pos 1 ∷ pos 439 ∷ negsuc 79 ∷ pos 537 ∷ negsuc 55
+    ∷ pos 587 ∷ negsuc 86 ∷ pos 52 ∷ negsuc 8 ∷ pos 3 ∷ pos 2 ∷ pos 1 ∷ pos 532 ∷ negsuc 97 ∷ pos 642 ∷ negsuc 75 ∷ [])
     -- one long end is enough, wherever it is
     ∷ long-of [] false
     ∷ long-of (node dot (leaf dot) (leaf dot) ∷ leaf dot ∷ []) false
@@ -129,12 +129,12 @@ stripFigures =
     ∷ long-of (leaf dot ∷ node dot (long dot) (leaf dot) ∷ []) true
     -- edges in their order, each with its own count
     ∷ store-of (job (pos 0) (pos 0) (pos 0) (pos 0) (pos 1) (pos 4) 2 (pos 10 ∷ pos 7 ∷ pos 10 ∷ pos 7 ∷ pos 10 ∷ pos 7 ∷ pos 10 ∷ pos 7 ∷ pos 11 ∷ pos 16 ∷ pos 6 ∷ pos 16 ∷ pos 12 ∷ pos 14 ∷ pos 13 ∷ pos 22 ∷ [])) 4
-    (pos 160 ∷ pos 112 ∷ pos 0 ∷ pos 0 ∷ pos 0 ∷ pos 0 ∷ pos 1
-    ∷ pos 174 ∷ pos 280 ∷ pos 24 ∷ pos 42 ∷ pos 26 ∷ pos 30 ∷ pos 3
-    ∷ pos 156 ∷ pos 255 ∷ negsuc 8 ∷ negsuc 0 ∷ pos 13 ∷ pos 5 ∷ pos 1
-    ∷ pos 184 ∷ pos 294 ∷ pos 27 ∷ pos 47 ∷ pos 3 ∷ pos 14 ∷ pos 1 ∷ [])
+    (pos 160 ∷ pos 112 ∷ pos 0 ∷ pos 0 ∷ pos 0 ∷ pos 0 ∷ pos 1 ∷ pos 160 ∷ pos 112 ∷ pos 160 ∷ pos 112
+    ∷ pos 174 ∷ pos 280 ∷ pos 24 ∷ pos 42 ∷ pos 26 ∷ pos 30 ∷ pos 3 ∷ pos 134 ∷ pos 233 ∷ pos 214 ∷ pos 355
+    ∷ pos 156 ∷ pos 255 ∷ negsuc 8 ∷ negsuc 0 ∷ pos 13 ∷ pos 5 ∷ pos 1 ∷ pos 134 ∷ pos 249 ∷ pos 178 ∷ pos 261
+    ∷ pos 184 ∷ pos 294 ∷ pos 27 ∷ pos 47 ∷ pos 3 ∷ pos 14 ∷ pos 1 ∷ pos 154 ∷ pos 233 ∷ pos 214 ∷ pos 355 ∷ [])
     -- a long end is a node too
-    ∷ begins-with (flatten (node dot (long dot) (leaf dot))) (pos 0 ∷ pos 0 ∷ pos 0 ∷ pos 0 ∷ pos 2 ∷ pos 2 ∷ pos 3 ∷ pos 0 ∷ pos 0 ∷ pos 0 ∷ pos 0 ∷ pos 2 ∷ pos 2 ∷ pos 1 ∷ pos 0 ∷ []) true
+    ∷ begins-with (flatten (node dot (long dot) (leaf dot))) (pos 0 ∷ pos 0 ∷ pos 0 ∷ pos 0 ∷ pos 2 ∷ pos 2 ∷ pos 3 ∷ negsuc 1 ∷ negsuc 1 ∷ pos 2 ∷ pos 2 ∷ pos 0 ∷ pos 0 ∷ pos 0 ∷ pos 0 ∷ pos 2 ∷ pos 2 ∷ pos 1 ∷ negsuc 1 ∷ negsuc 1 ∷ pos 2 ∷ pos 2 ∷ pos 0 ∷ []) true
     -- more may follow, and none may be missing or another, in its sign either
     ∷ begins-with (pos 5 ∷ negsuc 5 ∷ pos 7 ∷ []) (pos 5 ∷ negsuc 5 ∷ []) true
     ∷ begins-with (pos 5 ∷ negsuc 5 ∷ []) (pos 5 ∷ negsuc 5 ∷ []) true

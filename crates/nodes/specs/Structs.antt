@@ -1,15 +1,23 @@
--- What the code's struct stands for in the model, and its numbers once they are read. Assumes nothing.
+-- What the code's structs stand for in the model, and their numbers once they are read. Assumes nothing.
 use mathlib.Core.Path.{_≡_, ap}
 use Rattle.integers.specs.Signed.{Made, called}
 use Rattle.model.specs.Strips.{Side, Strip}
+use Rattle.model.specs.Boxes.{Span, Box}
 use Rattle.ranges.specs.Sizes.{SideSized}
 use Rattle.nodes.specs.declared.Extent.{Extent}
+use Rattle.nodes.specs.declared.Limits.{Limits}
 
 abbrev pub side : Extent → Side
 side s = record { centre = s .centre; axis = s .axis; box = s .half }
 
 abbrev pub stripOf : Extent → Extent → Strip
 stripOf x y = record { x = side x; y = side y }
+
+abbrev pub span : Limits → Span
+span v = record { least = v .least; greatest = v .greatest }
+
+abbrev pub boxBy : Limits → Limits → Box
+boxBy h v = record { x = span h; y = span v }
 
 -- ---- e was read where s is stored, and s is sized
 pub record Known (e : Extent) (s : Side) : Type 0 where

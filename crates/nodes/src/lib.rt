@@ -7,11 +7,11 @@ ghost use lib.ListN.{length, getD, drop};
 ghost use lib.Signed.{nonNeg};
 ghost use Rattle.model.specs.Store.{width, numbers};
 ghost use Rattle.ranges.specs.Sizes.{SideSized};
-ghost use Rattle.nodes.specs.Places.{sideIn, withSide};
-ghost use Rattle.nodes.specs.Structs.{side, stripOf};
+ghost use Rattle.nodes.specs.Places.{sideIn, withSide, spanIn, withSpan};
+ghost use Rattle.nodes.specs.Structs.{side, stripOf, span, boxBy};
 
 // the numbers of a node
-pub const WIDTH: usize = 7;
+pub const WIDTH: usize = 11;
 
 // the two coordinates
 pub const X: usize = 0;
@@ -25,16 +25,25 @@ pub const AXIS: usize = 2;
 
 pub const BOX: usize = 4;
 
-// where the count of the subtree's nodes stands, and where that of the left half does, whose node comes next
+// where the count of the subtree's nodes stands
 pub const COUNT: usize = 6;
 
-pub const LEFT_COUNT: usize = WIDTH + COUNT;
+// where the least and the greatest number of the box around the leaves stand: x at the place, y one behind it
+pub const LEAST: usize = 7;
+
+pub const GREATEST: usize = 9;
 
 // A strip in one coordinate: its centre, its axis and half its box.
 pub struct Extent {
     pub centre: i64,
     pub axis: i64,
     pub half: i64,
+}
+
+// A box in one coordinate. Its numbers are as the store has them, of 32 bits: of two stored boxes the lesser and the greater are stored ones too.
+pub struct Limits {
+    pub least: i32,
+    pub greatest: i32,
 }
 
 // ---- read
@@ -70,9 +79,22 @@ pub fn extent_at(s: &[i32], i: usize) -> Extent
     }
 }
 
+// the box of the first node of s in coordinate i
+pub fn limits_at(s: &[i32], i: usize) -> Limits
+    requires within { ⌜ (i < 2) × (width ≤ length (now s)) ⌝ }
+    ensures span { λ r. ⌜ span r ≡ spanIn (now (s .entry)) i ⌝ }
+{
+    let least = s[i + LEAST];
+    let greatest = s[i + GREATEST];
+    Limits {
+        least: least,
+        greatest: greatest,
+    }
+}
+
 // ---- put
 
-// the numbers of coordinate i, in the first node of s
+// the strip's numbers of coordinate i, in the first node of s
 fn put_side(s: &mut [i32], i: usize, v: Extent)
     requires sizes { ⌜ (i < 2) × (width ≤ length (now s)) × SideSized (side v) ⌝ }
     ensures written { λ _. ⌜ now (s .exit) ≡ withSide (now (s .entry)) i (side v) ⌝ }
@@ -82,12 +104,25 @@ fn put_side(s: &mut [i32], i: usize, v: Extent)
     s[i + BOX] = v.half as i32;
 }
 
+// the box's numbers of coordinate i, in the first node of s
+fn put_span(s: &mut [i32], i: usize, v: Limits)
+    requires within { ⌜ (i < 2) × (width ≤ length (now s)) ⌝ }
+    ensures written { λ _. ⌜ now (s .exit) ≡ withSpan (now (s .entry)) i (span v) ⌝ }
+{
+    let least = v.least;
+    let greatest = v.greatest;
+    s[i + LEAST] = least;
+    s[i + GREATEST] = greatest;
+}
+
 // a node's numbers at the front of s
-pub fn put(s: &mut [i32], x: Extent, y: Extent, nodes: usize)
+pub fn put(s: &mut [i32], x: Extent, y: Extent, nodes: usize, h: Limits, v: Limits)
     requires sizes { ⌜ (width ≤ length (now s)) × SideSized (side x) × SideSized (side y) × (nodes < 4096) ⌝ }
-    ensures written { λ _. ⌜ now (s .exit) ≡ numbers (stripOf x y) nodes (drop width (now (s .entry))) ⌝ }
+    ensures written { λ _. ⌜ now (s .exit) ≡ numbers (stripOf x y) nodes (boxBy h v) (drop width (now (s .entry))) ⌝ }
 {
     put_side(s, X, x);
     put_side(s, Y, y);
     s[COUNT] = nodes as i32;
+    put_span(s, X, h);
+    put_span(s, Y, v);
 }

@@ -55,5 +55,5 @@ unfolding judge counted ranged coordinate between placed marked kind isZero cell
 map-fills = (widest, (refl, refl), refl, refl)
 
 -- ---- the program's own call
-pub lent-room : (j : Job) → mapRefusal j (replicate 16380 (pos 0)) (replicate 65536 0) ≡ 7 → ⊥
-lent-room j = map-room j (replicate 16380 (pos 0)) (replicate 65536 0) (omega (arith, length-replicate {A = ℕ} 65536 0))
+pub lent-room : (j : Job) → mapRefusal j (replicate 16379 (pos 0)) (replicate 65536 0) ≡ 7 → ⊥
+lent-room j = map-room j (replicate 16379 (pos 0)) (replicate 65536 0) (omega (arith, length-replicate {A = ℕ} 65536 0))

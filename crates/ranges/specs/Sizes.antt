@@ -9,6 +9,7 @@ use lib.Signed.{nonNeg}
 use Rattle.model.specs.Jobs.{Component, cubic, line}
 use Rattle.model.specs.Strips.{Side, Strip}
 use Rattle.model.specs.Trees.{Tree, leaf, long, node}
+use Rattle.model.specs.Boxes.{Span, Box}
 
 -- ---- the control numbers and the ends of an edge are coordinates
 abbrev pub controlMost : ℕ
@@ -51,3 +52,15 @@ AllSized (node s l r) = Sized s × AllSized l × AllSized r
 abbrev pub EachSized : List Tree → Type 0
 EachSized [] = Unit {0}
 EachSized (t ∷ ts) = AllSized t × EachSized ts
+
+-- ---- an upright box: centre, axis and box together come to 2^29 + 2^29 + 2^27
+abbrev pub spanMost : ℕ
+spanMost = 1207959552
+
+pub record SpanSized (s : Span) : Type 0 where
+  pub least-size : natAbs (s .least) ≤ spanMost
+  pub greatest-size : natAbs (s .greatest) ≤ spanMost
+
+pub record BoxSized (b : Box) : Type 0 where
+  pub x-sized : SpanSized (b .x)
+  pub y-sized : SpanSized (b .y)

@@ -18,7 +18,7 @@ ghost use Rattle.model.specs.Explore.{judged, explore};
 ghost use Rattle.ranges.specs.Sizes.{Sized, AllSized};
 ghost use Rattle.strip_tests.specs.PlainTests.{code};
 ghost use Rattle.nodes.specs.Places.{stripIn};
-ghost use Rattle.subtrees.specs.Halves.{TreeOf};
+ghost use Rattle.subtrees.specs.Pending.{TreeOf};
 ghost use Rattle.search.specs.Probes.{CellSized, cellAt, judgedBy, Enough, Fair};
 
 // What a cell asks of every strip: the cell's centre and half side and the reach, in fine units, and the answer above which no strip goes.

@@ -1,7 +1,6 @@
 -- The subtree of a piece, and lists that begin with a tree in preorder.
 pub mod Preorder
 pub mod Begins
-pub mod Halves
 pub mod Fronts
 pub mod Pending
 pub mod Subtrees

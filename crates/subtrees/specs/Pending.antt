@@ -7,13 +7,21 @@ use lib.IntN.{ℤ, pos}
 use lib.ListN.{length, getD, drop}
 use lib.Seq.{drop-drop, getD-drop}
 use Rattle.model.specs.Strips.{Strip}
-use Rattle.model.specs.Trees.{Tree, node}
+use Rattle.model.specs.Trees.{Tree, leaf, long, node}
 use Rattle.model.specs.Store.{width, size, sizes, flatten, flattenAll}
-use Rattle.ranges.specs.Sizes.{Sized, AllSized, EachSized}
-use Rattle.nodes.specs.Places.{countPlace, stripIn}
-use Rattle.subtrees.specs.Preorder.{size-pos, length-flatten, Begins, begun, later, top, begins-strip, begins-count}
-use Rattle.subtrees.specs.Halves.{top-sized}
+use Rattle.model.specs.Boxes.{boxOf}
+use Rattle.ranges.specs.Sizes.{Sized, BoxSized, AllSized, EachSized}
+use Rattle.ranges.specs.Boxes.{box-sized}
+use Rattle.nodes.specs.Places.{countPlace, stripIn, boxIn}
+use Rattle.subtrees.specs.Preorder.{size-pos, length-flatten, Begins, begun, later, top, begins-strip, begins-box, begins-count}
 
+-- ---- the part holds a tree whose strips are sized
+pub record TreeOf (l : List ℤ) : Type 0 where
+  pub tree : Tree
+  pub is : l ≡ flatten tree
+  pub sized : AllSized tree
+
+-- ---- from place `at` on it is these trees
 pub record Rest (l : List ℤ) (at : ℕ) (ts : List Tree) : Type 0 where
   pub is : drop at l ≡ flattenAll ts
   pub long : length l ≡ at + width * sizes ts
@@ -59,6 +67,11 @@ module _ (l : List ℤ) (at : ℕ) where
   more (t ∷ ts) r h = record { tree = t; others = ts; are = refl }
 
 -- ---- what is read of the first of them
+top-sized : (t : Tree) → AllSized t → Sized (top t)
+top-sized (leaf s) f = f
+top-sized (long s) f = f
+top-sized (node s a b) f = f .0
+
 module _ {l : List ℤ} {at : ℕ} {t : Tree} {ts : List Tree} (r : Rest l at (t ∷ ts)) where
   begins : Begins t (drop at l)
   begins = begun (drop at l) (flattenAll ts) t (r .is)
@@ -74,3 +87,9 @@ module _ {l : List ℤ} {at : ℕ} {t : Tree} {ts : List Tree} (r : Rest l at (t
 
   pub count-is : getD l (at + countPlace) (pos 0) ≡ pos (size t)
   count-is = sym (getD-drop at l countPlace (pos 0)) ∙ begins-count t (drop at l) begins
+
+  pub box-is : boxIn (drop at l) ≡ boxOf t
+  box-is = begins-box t (drop at l) begins
+
+  pub around-sized : BoxSized (boxIn (drop at l))
+  around-sized = rw box-is (box-sized t (r .sized .0))

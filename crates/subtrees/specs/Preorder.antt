@@ -8,9 +8,10 @@ use lib.ListN.{length, getD, take, drop, length-append, length-drop}
 use lib.Seq.{take-all, drop-at, drop-drop}
 use Rattle.model.specs.Strips.{Strip}
 use Rattle.model.specs.Trees.{Tree, leaf, long, node}
+use Rattle.model.specs.Boxes.{Box, upright, around, boxOf}
 use Rattle.model.specs.Store.{width, size, sizes, numbers, flatten, flattenAll}
 use Rattle.nodes.specs.Places as nodes
-use Rattle.nodes.specs.Places.{countPlace, stripIn, strip-placed}
+use Rattle.nodes.specs.Places.{countPlace, stripIn, boxIn, strip-placed, around-placed}
 
 -- ---- how many numbers
 pub size-pos : (t : Tree) → 1 ≤ size t
@@ -54,27 +55,34 @@ count-first (leaf s) rest = refl
 count-first (long s) rest = refl
 count-first (node s l r) rest = refl
 
-front : (l : List ℤ) (s : Strip) (n : ℕ) → width ≤ length l → stripIn l ≡ s → getD l countPlace (pos 0) ≡ pos n → l ≡ numbers s n (drop width l)
-front l s n h k c = nodes.front l n h c ∙ ap (λ (z : Strip). numbers z n (drop width l)) k
+front : (l : List ℤ) (s : Strip) (n : ℕ) (b : Box) → width ≤ length l → stripIn l ≡ s → getD l countPlace (pos 0) ≡ pos n → boxIn l ≡ b → l ≡ numbers s n b (drop width l)
+front l s n b h k c e = nodes.front l n h c ∙ ap (λ (z : Strip). numbers z n (boxIn l) (drop width l)) k ∙ ap (λ (z : Box). numbers s n z (drop width l)) e
 
-strip-of : (l r : List ℤ) (s : Strip) (n : ℕ) → l ≡ numbers s n r → stripIn l ≡ s
-strip-of l r s n e = ap stripIn e ∙ strip-placed s n r
+-- what is read of a node, where the list is one and then r
+read-of : (l r : List ℤ) (s : Strip) (n : ℕ) (b : Box) → l ≡ numbers s n b r → (stripIn l ≡ s) × (boxIn l ≡ b)
+read-of l r s n b e = (ap stripIn e ∙ strip-placed s n b r, ap boxIn e ∙ around-placed s n b r)
 
 abbrev pub top : Tree → Strip
 top (leaf s) = s
 top (long s) = s
 top (node s l r) = s
 
+begins-read : (t : Tree) (l : List ℤ) → Begins t l → (stripIn l ≡ top t) × (boxIn l ≡ boxOf t)
+begins-read (leaf s) l e = read-of l (drop width l) s 1 (upright s) e
+begins-read (long s) l e = read-of l (drop width l) s 1 (upright s) e
+begins-read (node s a b) l e = read-of l ((flatten a ++ flatten b) ++ drop (width * suc (size a + size b)) l) s (suc (size a + size b)) (around (boxOf a) (boxOf b)) e
+
 pub begins-strip : (t : Tree) (l : List ℤ) → Begins t l → stripIn l ≡ top t
-begins-strip (leaf s) l e = strip-of l (drop width l) s 1 e
-begins-strip (long s) l e = strip-of l (drop width l) s 1 e
-begins-strip (node s a b) l e = strip-of l ((flatten a ++ flatten b) ++ drop (width * suc (size a + size b)) l) s (suc (size a + size b)) e
+begins-strip t l e = begins-read t l e .0
+
+pub begins-box : (t : Tree) (l : List ℤ) → Begins t l → boxIn l ≡ boxOf t
+begins-box t l e = begins-read t l e .1
 
 pub begins-count : (t : Tree) (l : List ℤ) → Begins t l → getD l countPlace (pos 0) ≡ pos (size t)
 begins-count t l e = ap (λ (z : List ℤ). getD z countPlace (pos 0)) e ∙ count-first t (drop (width * size t) l)
 
-pub leaf-begins : (l : List ℤ) (s : Strip) → width ≤ length l → stripIn l ≡ s → getD l countPlace (pos 0) ≡ pos 1 → Begins (leaf s) l
-leaf-begins l s h k c = front l s 1 h k c
+pub leaf-begins : (l : List ℤ) (s : Strip) → width ≤ length l → stripIn l ≡ s → getD l countPlace (pos 0) ≡ pos 1 → boxIn l ≡ upright s → Begins (leaf s) l
+leaf-begins l s h k c e = front l s 1 (upright s) h k c e
 
 -- ---- a node and its halves
 after : (l : List ℤ) (s : Strip) (a b : Tree) → Begins (node s a b) l → drop width l ≡ flatten a ++ (flatten b ++ drop (width * suc (size a + size b)) l)
@@ -88,13 +96,13 @@ node-right l s a b e =
     begun (drop (width + width * size a) l) (drop (width * suc (size a + size b)) l) b
     (sym (drop-drop (width * size a) width l) ∙ later (drop width l) (flatten b ++ drop (width * suc (size a + size b)) l) a (after l s a b e))
 
-pub node-begins : (l : List ℤ) (s : Strip) (a b : Tree) → width ≤ length l → stripIn l ≡ s → Begins a (drop width l) → Begins b (drop (width + width * size a) l) → getD l countPlace (pos 0) ≡ pos (suc (size a + size b)) →
+pub node-begins : (l : List ℤ) (s : Strip) (a b : Tree) → width ≤ length l → stripIn l ≡ s → Begins a (drop width l) → Begins b (drop (width + width * size a) l) → getD l countPlace (pos 0) ≡ pos (suc (size a + size b)) → boxIn l ≡ around (boxOf a) (boxOf b) →
     Begins (node s a b) l
-node-begins l s a b h k p q c =
+node-begins l s a b h k p q c e =
     let i : width + width * size a + width * size b ≡ width * suc (size a + size b) = omega arith in
     let u : drop (width + width * size a) l ≡ flatten b ++ drop (width * suc (size a + size b)) l = q ∙ ap (λ (z : List ℤ). flatten b ++ z) (drop-drop (width * size b) (width + width * size a) l ∙ ap (λ (n : ℕ). drop n l) i) in
     let v : drop width l ≡ flatten a ++ (flatten b ++ drop (width * suc (size a + size b)) l) = p ∙ ap (λ (z : List ℤ). flatten a ++ z) (drop-drop (width * size a) width l ∙ u) in
-    front l s (suc (size a + size b)) h k c ∙ ap (λ (z : List ℤ). numbers s (suc (size a + size b)) z) (v ∙ sym (append-assoc (flatten a) (flatten b) (drop (width * suc (size a + size b)) l)))
+    front l s (suc (size a + size b)) (around (boxOf a) (boxOf b)) h k c e ∙ ap (λ (z : List ℤ). numbers s (suc (size a + size b)) (around (boxOf a) (boxOf b)) z) (v ∙ sym (append-assoc (flatten a) (flatten b) (drop (width * suc (size a + size b)) l)))
 
 -- ---- several trees
 pub joined : (s : List ℤ) (t : Tree) (us : List Tree) → flatten t ++ (flattenAll us ++ drop (width * sizes us) (drop (width * size t) s)) ≡ (flatten t ++ flattenAll us) ++ drop (width * (size t + sizes us)) s

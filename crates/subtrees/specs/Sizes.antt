@@ -1,4 +1,4 @@
--- How many nodes a tree and a job's trees can have: 2,047 an edge at most, so that 917,056 numbers are a store for every job. Assumes nothing.
+-- How many nodes a tree and a job's trees can have: 2,047 an edge at most, so that 1,441,088 numbers are a store for every job. Assumes nothing.
 use mathlib.Core.Path.{_≡_, refl, ap}
 use mathlib.Core.Bool.{false, not}
 use mathlib.Core.List.{List, [], _++_}
@@ -56,7 +56,7 @@ unfolding forest outline
 forest-few j h = omega (arith, few-trees (j .grain) (j .marks) (j .places) (j .count) 0, h .few)
 
 -- ---- a store for every job
-enough : (j : Job) (store : List ℤ) → judge j ≡ 0 → 917056 ≤ length store → leb (width * nodesOf j) (length store) ≡ false → ⊥
+enough : (j : Job) (store : List ℤ) → judge j ≡ 0 → 1441088 ≤ length store → leb (width * nodesOf j) (length store) ≡ false → ⊥
 enough j store e h f = absurd (omega (arith, leb-false (width * nodesOf j) (length store) f, forest-few j (legal j e)))
 
 -- the check before that of the store

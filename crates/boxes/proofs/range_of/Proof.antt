@@ -1,111 +1,96 @@
--- Each number is within its size, so nothing wraps; a point's half side of 0 adds nothing to the box. Assumes nothing.
-use mathlib.Core.Path.{sym, ap, _∙_}
-use native.Mathlib.Nat.{le-trans}
+-- Each difference is within its size, so nothing wraps. Assumes nothing.
+use mathlib.Core.Path.{_≡_, sym, ap, ap₂, _∙_, subst}
+use Prim.Native.Nat.{_+_, _≤_}
+use native.Mathlib.Omega.{arith}
 use borrow.Author.Needs.{needs}
-use lib.IntN.{ℤ, _+ℤ_, _-ℤ_, +ℤ-idr}
-use mir.Syntax.{w64}
-use mir.Val.{toZ, ofZ}
-use Rattle.integers.specs.Absolute.{absℤ, abs-size}
-use Rattle.integers.specs.Signed.{Made, arg, plus, minus, back, called, sized}
-use Rattle.model.specs.Strips.{Side}
+use lib.IntN.{ℤ, natAbs}
+use Rattle.integers.specs.Signed.{read32}
+use Rattle.model.specs.Boxes.{Span, greater}
 use Rattle.model.specs.Explore.{atLeast0}
-use Rattle.nodes.specs.Places.{sideIn}
-use Rattle.nodes.specs.Structs.{Known, known}
-use Rattle.boxes.proofs.Clamps.{clamp-size}
+use Rattle.model.specs.Distance.{near, far}
+use Rattle.ranges.specs.Sizes.{SpanSized}
+use Rattle.nodes.specs.Places.{spanIn}
+use Rattle.nodes.specs.Structs.{span}
+use Rattle.boxes.proofs.Sizes.{rangeMost, difference-fits, difference, least-sum, greatest-sum, near-small, far-small}
 use Rattle.boxes.proofs.range_of.Statement.{statement}
 use Rattle.boxes.proofs.range_of.Tie as tie
 
-abbrev box-side : tie.Start → Side
-box-side s = sideIn (s .args .part .now) (s .args .i)
+-- the box, once it is read
+module _ (c : tie.After-struct-told2) where
+  abbrev start : tie.Start
+  start = c .before .before .before
 
-point : (s : tie.Start) → Made (s .args .c) (s .args .c) 16000000
-point s = arg (s .pre .3) (s .fits .c)
+  abbrev point : ℤ
+  point = start .args .c
 
--- the strip's numbers
-numbers : (c : tie.After-extent-at) → Known (c .extent-at .result) (box-side (c .before))
-numbers c = known (c .extent-at .result) (box-side (c .before)) (c .extent-at .ensures) (c .before .pre .2)
+  abbrev box : Span
+  box = span (c .before .before .limits-at .result)
 
-module _ (c : tie.After-abs2) where
-  abbrev strip : tie.After-extent-at
-  strip = c .before .before .before .before .before .before
+  sized : SpanSized box
+  sized = subst SpanSized (sym (c .before .before .limits-at .ensures)) (start .pre .2)
 
-  abbrev from : tie.Start
-  from = strip .before
+  below : natAbs (box .least) + natAbs point ≤ rangeMost
+  below = least-sum point box (start .pre .3) sized
 
-  w : Made (c .before .before .abs .result) (absℤ (from .args .c -ℤ box-side from .centre)) 552870912
-  w =
-      let d = minus (point from) (numbers strip .centre) tt in
-      called (c .before .before .abs .ensures ∙ ap absℤ (back d)) (rw abs-size (d .within)) tt
+  above : natAbs (box .greatest) + natAbs point ≤ rangeMost
+  above = greatest-sum point box (start .pre .3) sized
 
-  a : Made (c .abs2 .result) (absℤ (box-side from .axis)) 536870912
-  a =
-      let d = numbers strip .axis in
-      called (c .abs2 .ensures ∙ ap absℤ (back d)) (rw abs-size (d .within)) tt
+limits-at-requires : tie.Need-limits-at-requires
+limits-at-requires c κs = search needs
 
--- what is left of the distance of the centres once the box is taken off, and what they make together
-module _ {u v t W A B : ℤ} (p : Made u W 552870912) (q : Made v A 536870912) (r : Made t B 134217728) where
-  room : Made (toZ w64 (ofZ w64 (toZ w64 (ofZ w64 u) -ℤ toZ w64 (ofZ w64 v))) -ℤ toZ w64 (ofZ w64 t)) (W -ℤ A -ℤ B) 1223959552
-  room = minus (minus p q tt) r tt
+sub-greater-of : tie.Need-sub-greater-of
+sub-greater-of c = difference-fits (box c .least) (point c) (below c)
 
-  far : Made (toZ w64 (ofZ w64 (toZ w64 (ofZ w64 u) +ℤ toZ w64 (ofZ w64 v))) +ℤ toZ w64 (ofZ w64 t)) (W +ℤ A +ℤ B) 1223959552
-  far = plus (plus p q tt) r tt
+sub-greater-of-2 : tie.Need-sub-greater-of-2
+sub-greater-of-2 c = difference-fits (point c) (box c .greatest) (omega (arith, above c))
 
-extent-at-requires : tie.Need-extent-at-requires
-extent-at-requires c κs = search needs
-
-sub-abs : tie.Need-sub-abs
-sub-abs c = (minus (point (c .before .before .before .before)) (numbers (c .before .before .before) .centre) tt) .fits
-
-abs-requires : tie.Need-abs-requires
-abs-requires c κs = sized 4000000000000000000 (minus (point (c .before .before .before .before)) (numbers (c .before .before .before) .centre) tt) tt
-
-abs-requires-2 : tie.Need-abs-requires-2
-abs-requires-2 c κs = sized 4000000000000000000 (numbers (c .before .before .before .before .before) .axis) tt
-
-sub-at-least-0 : tie.Need-sub-at-least-0
-sub-at-least-0 c = (minus (w c) (a c) tt) .fits
-
-sub-at-least-0-2 : tie.Need-sub-at-least-0-2
-sub-at-least-0-2 c = room (w c) (a c) (numbers (strip c) .half) .fits
+greater-of-requires : tie.Need-greater-of-requires
+greater-of-requires c κs = search needs
 
 at-least-0-requires : tie.Need-at-least-0-requires
 at-least-0-requires c κs = search needs
 
-add-t9 : tie.Need-add-t9
-add-t9 c = (plus (w (c .before)) (a (c .before)) tt) .fits
+sub-greater-of-3 : tie.Need-sub-greater-of-3
+sub-greater-of-3 c = let d = c .before .before in difference-fits (point d) (box d .least) (omega (arith, below d))
 
-add-t10 : tie.Need-add-t10
-add-t10 c = let d = c .before in far (w d) (a d) (numbers (strip d) .half) .fits
+sub-greater-of-4 : tie.Need-sub-greater-of-4
+sub-greater-of-4 c = let d = c .before .before in difference-fits (box d .greatest) (point d) (above d)
+
+greater-of-requires-2 : tie.Need-greater-of-requires-2
+greater-of-requires-2 c κs = search needs
 
 returns : tie.Need-returns
 returns c =
-    let d = c .before in
-    let b = numbers (strip d) .half in
-    let s = from d in
-    let W = absℤ (s .args .c -ℤ box-side s .centre) in
-    let A = absℤ (box-side s .axis) in
-    let B = box-side s .box in
-    let r = room (w d) (a d) b in
-    let f = far (w d) (a d) b in
-    let n : Made (c .at-least-0 .result) (atLeast0 (W -ℤ A -ℤ B)) 1223959552 = called (c .at-least-0 .ensures ∙ ap atLeast0 (back r)) (le-trans (clamp-size (W -ℤ A -ℤ B)) (r .within)) tt in
+    let d = c .before .before .before in
+    let s = start d in
+    let b = spanIn (s .args .part .now) (s .args .i) in
+    let e = d .before .before .limits-at .ensures in
+    let g = c .before .before .greater-of in
+    let n =
+        read32 (c .before .at-least-0 .result) (c .before .at-least-0 .ok) ∙ c .before .at-least-0 .ensures
+        ∙ ap atLeast0 (read32 (g .result) (g .ok) ∙ g .ensures ∙ ap₂ greater (difference (box d .least) (point d) (below d)) (difference (point d) (box d .greatest) (omega (arith, above d))))
+        ∙ ap (near (point d)) e in
+    let f =
+        read32 (c .greater-of2 .result) (c .greater-of2 .ok) ∙ c .greater-of2 .ensures
+        ∙ ap₂ greater (difference (point d) (box d .least) (omega (arith, below d))) (difference (box d .greatest) (point d) (above d))
+        ∙ ap (far (point d)) e in
     record {
-      near-is = back n ∙ ap (λ (z : ℤ). atLeast0 (W -ℤ A -ℤ z)) (sym (+ℤ-idr B));
-      far-is = back f ∙ ap (λ (z : ℤ). W +ℤ A +ℤ z) (sym (+ℤ-idr B));
-      near-size = sized 1223959552 n tt;
-      far-size = sized 1223959552 f tt;
+      near-is = n;
+      far-is = f;
+      near-size = rw n (near-small (point d) b (s .pre .3) (s .pre .2));
+      far-size = rw f (far-small (point d) b (s .pre .3) (s .pre .2));
     }
 
 pub range-of-spec : {M : Type 1} → statement M
 range-of-spec =
     tie.close
     (tie.spec
-    extent-at-requires
-    sub-abs
-    abs-requires
-    abs-requires-2
-    sub-at-least-0
-    sub-at-least-0-2
+    limits-at-requires
+    sub-greater-of
+    sub-greater-of-2
+    greater-of-requires
     at-least-0-requires
-    add-t9
-    add-t10
+    sub-greater-of-3
+    sub-greater-of-4
+    greater-of-requires-2
     returns)
