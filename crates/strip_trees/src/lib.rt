@@ -5,13 +5,16 @@ use nodes::BOX;
 use nodes::CENTRE;
 use nodes::COUNT;
 use nodes::Extent;
+use nodes::GREATEST;
+use nodes::LEAST;
+use nodes::Limits;
 use nodes::WIDTH;
 use nodes::X;
 use nodes::Y;
 use strips::DEEPEST;
 use strips::Shape;
 ghost use mathlib.Core.Path.{_≡_};
-ghost use Prim.Native.Nat.{_≤_, _*_, _<_};
+ghost use Prim.Native.Nat.{_+_, _*_, _≤_, _<_};
 ghost use lib.IntN.{natAbs, pos};
 ghost use Rattle.ranges.specs.Sizes.{grainMost, SideSized};
 ghost use Rattle.subtrees.specs.Subtrees.{PieceAt, subtree, Walkable};
@@ -19,11 +22,12 @@ ghost use Rattle.subtrees.specs.Counts.{count};
 ghost use Rattle.strips.specs.Structs.{stripsOf, ShapeSized};
 ghost use mathlib.Core.List.{_++_};
 ghost use lib.ListN.{length, drop, getD};
+ghost use Rattle.model.specs.Boxes.{spanning};
 ghost use Rattle.model.specs.Store.{width, size, flatten};
 ghost use mathlib.Core.Bool.{false};
-ghost use Rattle.nodes.specs.Places.{countPlace, sideIn, stripIn};
+ghost use Rattle.nodes.specs.Places.{countPlace, sideIn, stripIn, spanIn, boxIn};
 ghost use Rattle.subtrees.specs.Preorder.{Begins};
-ghost use Rattle.nodes.specs.Structs.{side, stripOf};
+ghost use Rattle.nodes.specs.Structs.{side, stripOf, span, boxBy};
 ghost use Rattle.strip_trees.specs.Comparisons.{Unless, Told};
 
 // ---- counted, without a store
@@ -52,9 +56,22 @@ pub fn nodes_of(shape: Shape, d: usize, k: usize, grain: i64) -> usize
     1 + l + r
 }
 
+// ---- the box of a node with two halves, from theirs
+
+// In coordinate i, around the boxes of the left half, which stands right behind the first node of s, and of the right half at mid.
+fn around_halves(s: &[i32], mid: usize, i: usize) -> Limits
+    requires within { ⌜ (i < 2) × (width + width ≤ length (now s)) × (mid + width ≤ length (now s)) ⌝ }
+    ensures span { λ r. ⌜ span r ≡ spanning (spanIn (drop width (now (s .entry))) i) (spanIn (drop mid (now (s .entry))) i) ⌝ }
+{
+    let left = nodes::limits_at(&s[WIDTH..], i);
+    let right = nodes::limits_at(&s[mid..], i);
+    boxes::around(left, right)
+}
+
 // ---- built, in preorder, into a lent part of the store
 
-// Writes the piece's subtree at the front of s, and returns its nodes. A node's own numbers come last: only then are they counted.
+// Writes the piece's subtree at the front of s, and returns its nodes. A node's own numbers come last: only then is its subtree counted, and only
+// then are the boxes there that its own goes around.
 pub fn build(s: &mut [i32], shape: Shape, d: usize, k: usize, grain: i64) -> usize
     requires sizes { ⌜ ShapeSized shape × (natAbs grain ≤ grainMost) ⌝ }
     requires ready { ⌜ Walkable grain (stripsOf shape) d k (length (now s)) ⌝ }
@@ -66,14 +83,18 @@ pub fn build(s: &mut [i32], shape: Shape, d: usize, k: usize, grain: i64) -> usi
     let y = p.y;
     let short = p.short;
     if short {
-        nodes::put(s, x, y, 1);
+        let h = boxes::upright(x);
+        let v = boxes::upright(y);
+        nodes::put(s, x, y, 1, h, v);
         return 1;
     }
     let l = build(&mut s[WIDTH..], shape, d + 1, 2 * k, grain);
     let mid = WIDTH + WIDTH * l;
     let r = build(&mut s[mid..], shape, d + 1, 2 * k + 1, grain);
     let nodes = 1 + l + r;
-    nodes::put(s, x, y, nodes);
+    let h = around_halves(s, mid, X);
+    let v = around_halves(s, mid, Y);
+    nodes::put(s, x, y, nodes, h, v);
     nodes
 }
 
@@ -121,6 +142,38 @@ fn differs_strip(s: &[i32], x: Extent, y: Extent) -> bool
     differs_side(s, Y, y)
 }
 
+// is the first node's box another one in coordinate i
+fn differs_span(s: &[i32], i: usize, v: Limits) -> bool
+    requires within { ⌜ (i < 2) × (width ≤ length (now s)) ⌝ }
+    ensures unless { λ r. ⌜ Unless r (spanIn (now (s .entry)) i ≡ span v) ⌝ }
+{
+    if differs(s, i + LEAST, v.least as i64) {
+        return true;
+    }
+    differs(s, i + GREATEST, v.greatest as i64)
+}
+
+fn differs_box(s: &[i32], h: Limits, v: Limits) -> bool
+    requires space { ⌜ width ≤ length (now s) ⌝ }
+    ensures unless { λ r. ⌜ Unless r (boxIn (now (s .entry)) ≡ boxBy h v) ⌝ }
+{
+    if differs_span(s, X, h) {
+        return true;
+    }
+    differs_span(s, Y, v)
+}
+
+// is the first node's count or box other than these
+fn differs_below(s: &[i32], nodes: usize, h: Limits, v: Limits) -> bool
+    requires sizes { ⌜ (width ≤ length (now s)) × (nodes < 4096) ⌝ }
+    ensures unless { λ r. ⌜ Unless r ((getD (now (s .entry)) countPlace (pos 0) ≡ pos nodes) × (boxIn (now (s .entry)) ≡ boxBy h v)) ⌝ }
+{
+    if differs_count(s, nodes) {
+        return true;
+    }
+    differs_box(s, h, v)
+}
+
 // the nodes of the piece's subtree if s begins with it, and 0 otherwise
 pub fn begins_with(s: &[i32], shape: Shape, d: usize, k: usize, grain: i64) -> usize
     requires sizes { ⌜ ShapeSized shape × (natAbs grain ≤ grainMost) ⌝ }
@@ -135,7 +188,9 @@ pub fn begins_with(s: &[i32], shape: Shape, d: usize, k: usize, grain: i64) -> u
         return 0;
     }
     if short {
-        if differs_count(s, 1) {
+        let h = boxes::upright(x);
+        let v = boxes::upright(y);
+        if differs_below(s, 1, h, v) {
             return 0;
         }
         return 1;
@@ -150,7 +205,9 @@ pub fn begins_with(s: &[i32], shape: Shape, d: usize, k: usize, grain: i64) -> u
         return 0;
     }
     let nodes = 1 + l + r;
-    if differs_count(s, nodes) {
+    let h = around_halves(s, mid, X);
+    let v = around_halves(s, mid, Y);
+    if differs_below(s, nodes, h, v) {
         return 0;
     }
     nodes

@@ -85,16 +85,13 @@ pub leaf-begins : (l : List ℤ) (s : Strip) → width ≤ length l → stripIn 
 leaf-begins l s h k c e = front l s 1 (upright s) h k c e
 
 -- ---- a node and its halves
-after : (l : List ℤ) (s : Strip) (a b : Tree) → Begins (node s a b) l → drop width l ≡ flatten a ++ (flatten b ++ drop (width * suc (size a + size b)) l)
-after l s a b e = ap (λ (z : List ℤ). drop width z) e ∙ append-assoc (flatten a) (flatten b) (drop (width * suc (size a + size b)) l)
+pub halves-begin : (l rest : List ℤ) (a b : Tree) → drop width l ≡ (flatten a ++ flatten b) ++ rest → Begins a (drop width l) × Begins b (drop (width + width * size a) l)
+halves-begin l rest a b e =
+    let u : drop width l ≡ flatten a ++ (flatten b ++ rest) = e ∙ append-assoc (flatten a) (flatten b) rest in
+    (begun (drop width l) (flatten b ++ rest) a u, begun (drop (width + width * size a) l) rest b (sym (drop-drop (width * size a) width l) ∙ later (drop width l) (flatten b ++ rest) a u))
 
-pub node-left : (l : List ℤ) (s : Strip) (a b : Tree) → Begins (node s a b) l → Begins a (drop width l)
-node-left l s a b e = begun (drop width l) (flatten b ++ drop (width * suc (size a + size b)) l) a (after l s a b e)
-
-pub node-right : (l : List ℤ) (s : Strip) (a b : Tree) → Begins (node s a b) l → Begins b (drop (width + width * size a) l)
-node-right l s a b e =
-    begun (drop (width + width * size a) l) (drop (width * suc (size a + size b)) l) b
-    (sym (drop-drop (width * size a) width l) ∙ later (drop width l) (flatten b ++ drop (width * suc (size a + size b)) l) a (after l s a b e))
+pub node-halves : (l : List ℤ) (s : Strip) (a b : Tree) → Begins (node s a b) l → Begins a (drop width l) × Begins b (drop (width + width * size a) l)
+node-halves l s a b e = halves-begin l (drop (width * suc (size a + size b)) l) a b (ap (λ (z : List ℤ). drop width z) e)
 
 pub node-begins : (l : List ℤ) (s : Strip) (a b : Tree) → width ≤ length l → stripIn l ≡ s → Begins a (drop width l) → Begins b (drop (width + width * size a) l) → getD l countPlace (pos 0) ≡ pos (suc (size a + size b)) → boxIn l ≡ around (boxOf a) (boxOf b) →
     Begins (node s a b) l

@@ -1,6 +1,7 @@
 -- The measure is the halvings that are left. `both` joins what the two calls leave in their parts. Assumes nothing.
 use mathlib.Core.Path.{_≡_, refl, sym, ap, _∙_}
-use mathlib.Core.List.{_++_}
+use mathlib.Core.List.{List, _++_}
+use lib.IntN.{ℤ}
 use Prim.Native.Nat.{suc, _+_, _*_, _-_, _≤_}
 use native.Mathlib.Omega.{arith}
 use borrow.Author.Needs.{needs}
@@ -9,19 +10,23 @@ use lib.ListN.{length, drop, length-drop}
 use Rattle.sequences.specs.Parts.{tail-mid}
 use Rattle.model.specs.Strips.{short}
 use Rattle.model.specs.Trees.{Tree, deepest}
+use Rattle.model.specs.Boxes.{upright}
 use Rattle.model.specs.Store.{width, size, flatten}
-use Rattle.subtrees.specs.Preorder.{size-pos}
+use Rattle.nodes.specs.Places.{box-eq}
+use Rattle.subtrees.specs.Preorder.{size-pos, Begins, halves-begin}
 use Rattle.subtrees.specs.Subtrees.{subtree, left-half, right-half, place-most, at-short, few, Forked, forked}
 use Rattle.nodes.specs.Structs.{stripOf}
 use Rattle.strips.specs.Structs.{stripsOf}
-use Rattle.strip_trees.proofs.Halves.{both, put-eq, same-walk, same-built}
+use Rattle.strip_trees.proofs.Halves.{lent-both, both, put-eq, around-eq, same-walk, same-built}
 use Prim.Native.Nat.{ℕ, _<_}
 use borrow.Fn.Kinds.{In}
 use borrow.Fn.PlainCycle.{Measures, is, falls, and}
 use Rattle.strip_trees.proofs.build.Reads as build
 use Rattle.strip_trees.proofs.build.Kinds as build-kinds
 use Rattle.strip_trees.proofs.+build.Lts-build as build-lts
+use Rattle.boxes.proofs.upright.Reads as upright-reads
 use Rattle.nodes.proofs.put.Reads as put-reads
+use Rattle.strip_trees.proofs.around_halves.Reads as around-halves-reads
 use Rattle.strips.proofs.piece_of.Reads as piece-of-reads
 use Rattle.strip_trees.proofs.+build.{statement}
 use Rattle.strip_trees.proofs.+build.Tie.{close}
@@ -36,7 +41,7 @@ abbrev build-below : ℕ → In 1 build-kinds.ps
 build-below t = and 1 build-kinds.ps (falls 1 build-kinds.ps _<_ μ-build t) build.Pre
 
 abbrev callees : ℕ → build-lts.Claims
-callees t = (piece-of-reads.Asked, piece-of-reads.Learnt, put-reads.Asked, put-reads.Learnt, build-below t, build.Post)
+callees t = (piece-of-reads.Asked, piece-of-reads.Learnt, upright-reads.Asked, upright-reads.Learnt, put-reads.Asked, put-reads.Learnt, build-below t, build.Post, around-halves-reads.Asked, around-halves-reads.Learnt)
 
 abbrev whole-of : (t : ℕ) → build-lts.Start (callees t) (build-at t) build.Post → Tree
 whole-of t s = subtree (s .args .grain) (stripsOf (s .args .shape)) (s .args .d) (s .args .k)
@@ -85,9 +90,15 @@ few-at t c =
 build-piece-of-requires : (t : ℕ) → build-lts.Need-piece-of-requires (callees t) (build-at t) build.Post
 build-piece-of-requires t c κs = let p = c .pre .1 in (p .0 .0, p .1 .piece, rw (toZ-ofZ (c .fits .grain)) (p .0 .1))
 
+build-upright-requires : (t : ℕ) → build-lts.Need-upright-requires (callees t) (build-at t) build.Post
+build-upright-requires t c κs = c .before .before .before .piece-of .ensures .1 .0 .x-sized
+
+build-upright-requires-2 : (t : ℕ) → build-lts.Need-upright-requires-2 (callees t) (build-at t) build.Post
+build-upright-requires-2 t c κs = c .before .before .before .before .piece-of .ensures .1 .0 .y-sized
+
 build-put-requires : (t : ℕ) → build-lts.Need-put-requires (callees t) (build-at t) build.Post
 build-put-requires t c κs =
-    let a = c .before .before .before .before in
+    let a = c .before .before .before .before .before .before in
     let s = a .before in
     (omega (arith, size-pos (whole-of t s), s .pre .1 .1 .fits), a .piece-of .ensures .1 .0 .x-sized, a .piece-of .ensures .1 .0 .y-sized, omega arith)
 
@@ -96,10 +107,12 @@ build-same-length t c = search needs
 
 build-returns : (t : ℕ) → build-lts.Need-returns (callees t) (build-at t) build.Post
 build-returns t c =
-    let a = c .before .before .before .before .before .before in
+    let u = c .before .before .before in
+    let a = u .before .before .before .before .before in
     let s = a .before in
-    let e = sym (short-is t a) ∙ c .before .before .before .if1 .taken in
-    rw (at-short (s .args .grain) (stripsOf (s .args .shape)) (s .args .d) (s .args .k) e) (refl, c .before .put .ensures ∙ put-eq 1 (drop width (s .args .s .now)) (strip-is t a))
+    let e = sym (short-is t a) ∙ u .before .before .if1 .taken in
+    rw (at-short (s .args .grain) (stripsOf (s .args .shape)) (s .args .d) (s .args .k) e)
+    (refl, c .before .put .ensures ∙ put-eq 1 (drop width (s .args .s .now)) (strip-is t a) (box-eq (u .before .upright .ensures) (u .upright2 .ensures) ∙ ap upright (strip-is t a)))
 
 build-sub-build : (t : ℕ) → build-lts.Need-sub-build (callees t) (build-at t) build.Post
 build-sub-build t c = omega (arith, room t c)
@@ -168,35 +181,78 @@ build-add-nodes t c = omega (arith, few-at t c)
 build-add-nodes-2 : (t : ℕ) → build-lts.Need-add-nodes-2 (callees t) (build-at t) build.Post
 build-add-nodes-2 t c = omega (arith, few-at t c)
 
+-- ---- once both halves are built
+module _ (t : ℕ) (q : build-lts.After-s3 (callees t) (build-at t) build.Post) where
+  abbrev first-call : build-lts.After-build (callees t) (build-at t) build.Post
+  first-call = q .before .before .before .before
+
+  abbrev start : build-lts.Start (callees t) (build-at t) build.Post
+  start = first-call .before .before .before .before .before .before
+
+  abbrev l : Tree
+  l = left-of t start
+
+  abbrev r : Tree
+  r = right-of t start
+
+  mid-is : width + width * first-call .build .result ≡ width + width * size l
+  mid-is = omega (arith, left-is t first-call)
+
+  count-is : 1 + first-call .build .result + q .before .build2 .result ≡ suc (size l + size r)
+  count-is = omega (arith, left-is t first-call, right-is t (q .before))
+
+  -- the store with both, and what stands behind the first node's numbers
+  abbrev stored : List ℤ
+  stored = lent-both (start .args .s .now) (first-call .build .last .0) (first-call .build .result) (q .before .build2 .last .0)
+
+  fits : width + width * size l + width * size r ≤ length stored
+  fits = omega (arith, room t (first-call .before .before), q .s3 .given, q .before .before .before .s2 .given)
+
+  behind : drop width (stored) ≡ (flatten l ++ flatten r) ++ drop (width * suc (size l + size r)) (start .args .s .now)
+  behind =
+      let g = rw (toZ-ofZ (start .fits .grain)) at (first-call .build .ensures) in
+      let h = same-built (start .args .grain) (stripsOf (start .args .shape)) (start .args .d + 1) (2 * start .args .k + 1) _ _ _ _ _ (rw (toZ-ofZ (start .fits .grain)) at (q .before .build2 .ensures)) (omega arith) (omega arith) in
+      both (start .args .s .now) (first-call .build .last .0) (q .before .build2 .last .0) l r (first-call .build .result) (left-is t first-call) (room t (first-call .before .before)) (q .before .before .before .s2 .given .1) (g .1) (h .1)
+
+  halves-stored : Begins l (drop width (stored)) × Begins r (drop (width + width * size l) (stored))
+  halves-stored = halves-begin (stored) (drop (width * suc (size l + size r)) (start .args .s .now)) l r behind
+
+build-around-halves-requires : (t : ℕ) → build-lts.Need-around-halves-requires (callees t) (build-at t) build.Post
+build-around-halves-requires t c κs =
+    let q = c .before in
+    (omega arith, omega (arith, fits t q, size-pos (l t q)), omega (arith, fits t q, mid-is t q, size-pos (r t q)))
+
+build-around-halves-requires-2 : (t : ℕ) → build-lts.Need-around-halves-requires-2 (callees t) (build-at t) build.Post
+build-around-halves-requires-2 t c κs =
+    let q = c .before .before .before in
+    (omega arith, omega (arith, fits t q, size-pos (l t q)), omega (arith, fits t q, mid-is t q, size-pos (r t q)))
+
 build-put-requires-2 : (t : ℕ) → build-lts.Need-put-requires-2 (callees t) (build-at t) build.Post
 build-put-requires-2 t c κs =
-    let e = c .before .before .before .before .before .before .before in
-    let a = e .before .before .before in
-    (omega (arith, c .before .s3 .given, c .before .before .before .before .s2 .given, room t e), a .piece-of .ensures .1 .0 .x-sized, a .piece-of .ensures .1 .0 .y-sized, few-at t (c .before))
+    let q = c .before .before .before .before .before in
+    let a = first-call t q .before .before .before .before .before in
+    (omega (arith, fits t q), a .piece-of .ensures .1 .0 .x-sized, a .piece-of .ensures .1 .0 .y-sized, few-at t q)
 
 build-same-length-2 : (t : ℕ) → build-lts.Need-same-length-2 (callees t) (build-at t) build.Post
 build-same-length-2 t c = search needs
 
 build-returns-2 : (t : ℕ) → build-lts.Need-returns-2 (callees t) (build-at t) build.Post
 build-returns-2 t c =
-    let q = c .before .before .before .before in
-    let b = q .before .before .before in
-    let e = b .before .before in
-    let a = e .before .before .before in
-    let s = a .before in
-    let l = left-of t s in
-    let r = right-of t s in
-    let n : 1 + b .build .result + q .build2 .result ≡ suc (size l + size r) = omega (arith, left-is t b, right-is t q) in
-    let g = rw (toZ-ofZ (s .fits .grain)) at (b .build .ensures) in
-    let h = same-built (s .args .grain) (stripsOf (s .args .shape)) (s .args .d + 1) (2 * s .args .k + 1) _ _ _ _ _ (rw (toZ-ofZ (s .fits .grain)) at (q .build2 .ensures)) (omega arith) (omega arith) in
-    let w = both (s .args .s .now) (b .build .last .0) (q .build2 .last .0) l r (b .build .result) (left-is t b) (room t e) (q .before .before .s2 .given .1) (g .1) (h .1) in
-    rw (fork-at t e .is) (n, c .before .put2 .ensures ∙ rw (n, w) (put-eq (suc (size l + size r)) ((flatten l ++ flatten r) ++ drop (width * suc (size l + size r)) (s .args .s .now)) (strip-is t a)))
+    let h = c .before .before .before in
+    let q = h .before .before .before .before in
+    let e = first-call t q .before .before in
+    let s = start t q in
+    let b = around-eq (stored t q) (l t q) (r t q) (width + width * first-call t q .build .result) (halves-stored t q) (mid-is t q) (h .before .before .around-halves .ensures) (h .around-halves2 .ensures) in
+    rw (fork-at t e .is)
+    (count-is t q, c .before .put2 .ensures ∙ rw (count-is t q, behind t q) (put-eq (suc (size (l t q) + size (r t q))) ((flatten (l t q) ++ flatten (r t q)) ++ drop (width * suc (size (l t q) + size (r t q))) (s .args .s .now)) (strip-is t (e .before .before .before)) b))
 
 pub +build-spec : {M : Type 1} → statement M
 +build-spec = close μ-build λ t. build-lts.spec (callees t)
     (build-at t)
     build.Post
     (build-piece-of-requires t)
+    (build-upright-requires t)
+    (build-upright-requires-2 t)
     (build-put-requires t)
     (build-same-length t)
     (build-returns t)
@@ -218,6 +274,8 @@ pub +build-spec : {M : Type 1} → statement M
     (build-build-requires-2 t)
     (build-add-nodes t)
     (build-add-nodes-2 t)
+    (build-around-halves-requires t)
+    (build-around-halves-requires-2 t)
     (build-put-requires-2 t)
     (build-same-length-2 t)
     (build-returns-2 t)
