@@ -1,97 +1,58 @@
--- A store that begins with several trees, its first one, and what one edge more does to what is found. Assumes nothing.
-use mathlib.Core.Path.{_≡_, refl, sym, ap, ap₂, _∙_, subst}
-use mathlib.Core.Bool.{Bool, true, false, cond}
-use mathlib.Core.List.{List, [], _∷_, _++_, append-nil}
-use Prim.Native.Nat.{ℕ, suc, _+_, _*_, _<_}
+-- The walk over the edges' trees: visiting those ahead, from what was found so far, gives what the lookup of all gives. Assumes nothing.
+use mathlib.Core.Path.{_≡_, refl, sym, ap, _∙_, subst}
+use mathlib.Core.List.{List, [], _∷_}
+use Prim.Native.Nat.{ℕ, suc, _+_, _*_, _≤_, _<_}
 use native.Mathlib.Numerals.{add-one}
 use native.Mathlib.Omega.{arith}
 use lib.IntN.{ℤ}
-use lib.ListN.{length, drop}
-use lib.Signed.{ltZ}
-use Rattle.model.specs.Strips.{Strip}
+use lib.ListN.{length}
 use Rattle.model.specs.Trees.{Tree}
+use Rattle.model.specs.Explore.{Cell}
 use Rattle.model.specs.Store.{width, size}
-use Rattle.model.specs.Explore.{Cell, farthest², closest²}
-use Rattle.model.specs.Distance.{leaves, leavesAll, leavesAt, lesser, least, Some}
-use Rattle.ranges.specs.Sizes.{AllSized, EachSized}
-use Rattle.subtrees.specs.Preorder.{Begins, BeginsAll, all-first, all-others}
-use Rattle.subtrees.specs.Fronts.{TreesOf}
-use Rattle.boxes.specs.declared.Bounds.{Bounds}
-use Rattle.distance.specs.declared.Found.{Found}
-use Rattle.distance.specs.Least.{least-append, attained, leaf-there, leaves-there, some-below}
-use Rattle.distance.specs.Lookups.{BoundsOf, FoundIn}
+use Rattle.model.specs.Lookup.{State, start, visit, visitAll}
+use Rattle.subtrees.specs.Fronts.{Holds}
+use Rattle.subtrees.specs.At.{At, Ahead, first-at, next-ahead}
 
--- ---- the first tree, and the others
-pub record First (l : List ℤ) (k : ℕ) : Type 0 where
-  pub first : Tree
-  pub others : List Tree
-  pub many : suc (length others) ≡ k
-  pub begins : Begins first l
-  pub later : BeginsAll others (drop (width * size first) l)
-  pub first-sized : AllSized first
-  pub others-sized : EachSized others
+module _ (p : Cell) (store : List ℤ) (count : ℕ) (ts : List Tree) where
+  -- at place `at` edge e's tree begins, and the state has become st
+  pub record Sofar (st : State) (at e : ℕ) : Type 0 where
+    pub others : List Tree
+    pub ahead : Ahead store at others
+    pub many : e + length others ≡ count
+    pub left : visitAll p 0 ts start ≡ visitAll p e others st
+    pub few : width * st .reads ≤ at
 
-first-of′ : (l : List ℤ) (k : ℕ) (ts : List Tree) → length ts ≡ k → 0 < k → BeginsAll ts l → EachSized ts → First l k
-first-of′ l k [] e h b s = absurd (omega arith)
-first-of′ l k (t ∷ us) e h b s = record { first = t; others = us; many = e; begins = all-first t us l b; later = all-others t us l b; first-sized = s .0; others-sized = s .1 }
+  pub begin : Holds store count ts → Sofar start 0 0
+  begin h = record { others = ts; ahead = record { begins = h .begins; sized = h .sized }; many = omega (arith, h .many); left = refl; few = omega arith }
 
-pub first-of : {l : List ℤ} {k : ℕ} → TreesOf l k → 0 < k → First l k
-first-of {l} {k} h p = first-of′ l k (h .trees) (h .holds .many) p (h .holds .begins) (h .holds .sized)
+  pub end : {st : State} {at e : ℕ} → Sofar st at e → count ≤ e → st ≡ visitAll p 0 ts start
+  unfolding visitAll
+  end {st} {at} {e} w h = sym (w .left ∙ go (w .others) (omega (arith, w .many)))
+    where
+      go : (us : List Tree) → length us ≡ 0 → visitAll p e us st ≡ st
+      go [] i = refl
+      go (u ∷ us) i = absurd (omega arith)
 
--- ---- what is found
-module _ (c : Cell) where
-  some-of : (ss : List Strip) (u v : ℤ) → u ≡ v → Some (λ s. farthest² c s ≡ u) ss → Some (λ s. farthest² c s ≡ v) ss
-  some-of ss u v e w = subst (λ (z : ℤ). Some (λ s. farthest² c s ≡ z) ss) e w
+  -- ---- the tree that comes next
+  pub record Next (st : State) (at e : ℕ) : Type 0 where
+    pub tree : Tree
+    pub here : At store at tree
+    pub past : {r : State} {q f : ℕ} → q ≡ at + width * size tree → f ≡ e + 1 → r ≡ visit p e tree st → width * r .reads ≤ width * st .reads + width * size tree → Sofar r q f
 
-  pub only : (t : Tree) (b : Bounds) (r : Found) → BoundsOf c (leaves t) b → r .lo ≡ b .lo → r .hi ≡ b .hi → r .edge ≡ 0 → FoundIn c (t ∷ []) r
-  unfolding leavesAll leavesAt
-  only t b r h p q z = record {
-    lo-is = p ∙ h .lo-is ∙ ap (least (closest² c)) (sym (append-nil (leaves t)));
-    hi-is = q ∙ h .hi-is ∙ ap (least (farthest² c)) (sym (append-nil (leaves t)));
-    attains = subst (λ (e : ℕ). Some (λ s. farthest² c s ≡ least (farthest² c) (leaves t ++ [])) (leavesAt (t ∷ []) e)) (sym z)
-        (some-of (leaves t) (least (farthest² c) (leaves t)) (least (farthest² c) (leaves t ++ [])) (ap (least (farthest² c)) (sym (append-nil (leaves t)))) (attained (farthest² c) (leaves t) (leaf-there t)));
+  next′ : (st : State) (at e : ℕ) (us : List Tree) → Ahead store at us → e + length us ≡ count → visitAll p 0 ts start ≡ visitAll p e us st → width * st .reads ≤ at → e < count → Next st at e
+  unfolding visitAll
+  next′ st at e [] a m l k h = absurd (omega arith)
+  next′ st at e (u ∷ us) a m l k h = record {
+    tree = u;
+    here = first-at store at u us a;
+    past = λ {r} {q} {f} i j v n. record {
+      others = us;
+      ahead = subst (λ (z : ℕ). Ahead store z us) (sym i) (next-ahead store at u us a);
+      many = omega (arith, m, j);
+      left = l ∙ ap (λ (z : State). visitAll p (suc e) us z) (sym v) ∙ ap (λ (z : ℕ). visitAll p z us r) (sym (j ∙ add-one e));
+      few = omega (arith, i, k, n);
+    };
   }
 
-  module _ (t u : Tree) (us : List Tree) (b : Bounds) (q r : Found) (h : BoundsOf c (leaves t) b) (k : FoundIn c (u ∷ us) q) where
-    all : (f : Strip → ℤ) → least f (leavesAll (t ∷ u ∷ us)) ≡ lesser (least f (leaves t)) (least f (leavesAll (u ∷ us)))
-    unfolding leavesAll
-    all f = least-append f (leaves t) (leavesAll (u ∷ us)) (leaf-there t) (leaves-there u us)
-
-    high : least (farthest² c) (leavesAll (t ∷ u ∷ us)) ≡ lesser (b .hi) (q .hi)
-    high = all (farthest² c) ∙ ap₂ lesser (sym (h .hi-is)) (sym (k .hi-is))
-
-    attains : (p : Bool) → ltZ (q .hi) (b .hi) ≡ p → (e : ℕ) → e ≡ cond p (q .edge + 1) 0 → Some (λ s. farthest² c s ≡ least (farthest² c) (leavesAll (t ∷ u ∷ us))) (leavesAt (t ∷ u ∷ us) e)
-    unfolding leavesAt
-    attains true x e z =
-        let y : least (farthest² c) (leavesAll (u ∷ us)) ≡ least (farthest² c) (leavesAll (t ∷ u ∷ us)) = sym (k .hi-is) ∙ sym (high ∙ ap (λ (p : Bool). cond p (q .hi) (b .hi)) x) in
-        subst (λ (i : ℕ). Some (λ s. farthest² c s ≡ least (farthest² c) (leavesAll (t ∷ u ∷ us))) (leavesAt (t ∷ u ∷ us) i)) (sym (z ∙ add-one (q .edge)))
-        (some-of (leavesAt (u ∷ us) (q .edge)) (least (farthest² c) (leavesAll (u ∷ us))) (least (farthest² c) (leavesAll (t ∷ u ∷ us))) y (k .attains))
-    attains false x e z =
-        let y : least (farthest² c) (leaves t) ≡ least (farthest² c) (leavesAll (t ∷ u ∷ us)) = sym (h .hi-is) ∙ sym (high ∙ ap (λ (p : Bool). cond p (q .hi) (b .hi)) x) in
-        subst (λ (i : ℕ). Some (λ s. farthest² c s ≡ least (farthest² c) (leavesAll (t ∷ u ∷ us))) (leavesAt (t ∷ u ∷ us) i)) (sym z)
-        (some-of (leaves t) (least (farthest² c) (leaves t)) (least (farthest² c) (leavesAll (t ∷ u ∷ us))) y (attained (farthest² c) (leaves t) (leaf-there t)))
-
-    pub one-more : r .lo ≡ lesser (b .lo) (q .lo) → r .hi ≡ lesser (b .hi) (q .hi) → r .edge ≡ cond (ltZ (q .hi) (b .hi)) (q .edge + 1) 0 → FoundIn c (t ∷ u ∷ us) r
-    one-more x y z = record {
-      lo-is = x ∙ ap₂ lesser (h .lo-is) (k .lo-is) ∙ sym (all (closest² c));
-      hi-is = y ∙ sym high;
-      attains = attains (ltZ (q .hi) (b .hi)) refl (r .edge) z;
-    }
-
-  pub edge-below : (ts : List Tree) (r : Found) → FoundIn c ts r → r .edge < length ts
-  edge-below ts r h = some-below (λ s. farthest² c s ≡ least (farthest² c) (leavesAll ts)) ts (r .edge) (h .attains)
-
-  -- ---- for any trees with which the list begins: k is their number, b is found of the first, and q of the others
-  pub last-edge : (l : List ℤ) (k : ℕ) (b : Bounds) (r : Found) → k ≡ 1 → ((t : Tree) → Begins t l → BoundsOf c (leaves t) b) → r .lo ≡ b .lo → r .hi ≡ b .hi → r .edge ≡ 0
-      → (ts : List Tree) → length ts ≡ k → BeginsAll ts l → FoundIn c ts r
-  last-edge l k b r o f p q z [] e g = absurd (omega arith)
-  last-edge l k b r o f p q z (t ∷ []) e g = only t b r (f t (all-first t [] l g)) p q z
-  last-edge l k b r o f p q z (t ∷ u ∷ us) e g = absurd (omega arith)
-
-  pub more-edges : (l : List ℤ) (k : ℕ) (b : Bounds) (q r : Found) → 0 < k → (k ≡ 1 → ⊥) → ((t : Tree) → Begins t l → BoundsOf c (leaves t) b)
-      → ((t : Tree) (us : List Tree) → suc (length us) ≡ k → BeginsAll (t ∷ us) l → FoundIn c us q)
-      → r .lo ≡ lesser (b .lo) (q .lo) → r .hi ≡ lesser (b .hi) (q .hi) → r .edge ≡ cond (ltZ (q .hi) (b .hi)) (q .edge + 1) 0
-      → (ts : List Tree) → length ts ≡ k → BeginsAll ts l → FoundIn c ts r
-  more-edges l k b q r h o f g x y z [] e d = absurd (omega arith)
-  more-edges l k b q r h o f g x y z (t ∷ []) e d = absurd (o (sym e))
-  more-edges l k b q r h o f g x y z (t ∷ u ∷ us) e d = one-more t u us b q r (f t (all-first t (u ∷ us) l d)) (g t (u ∷ us) e d) x y z
+  pub next : {st : State} {at e : ℕ} → Sofar st at e → e < count → Next st at e
+  next {st} {at} {e} w h = next′ st at e (w .others) (w .ahead) (w .many) (w .left) (w .few) h

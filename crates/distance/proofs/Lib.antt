@@ -1,3 +1,3 @@
 -- Laws that belong to no one function.
-pub mod Finds
+pub mod Walks
 pub mod Edges

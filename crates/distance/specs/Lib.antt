@@ -1,3 +1,2 @@
--- The least value over leaves, and what the lookup of a point answers.
-pub mod Least
-pub mod Lookups
+-- What the lookup has found, in the model's terms.
+pub mod States

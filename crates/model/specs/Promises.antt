@@ -1,7 +1,7 @@
 -- RULES, "Promises": what is proved of the definitions: each promise as a named statement. docs/GUIDE.md says where each is proved.
 -- Assumes nothing.
 use mathlib.Core.Path.{_≡_}
-use mathlib.Core.Bool.{false}
+use mathlib.Core.Bool.{true, false}
 use mathlib.Core.Logic.{_⊎_, _↔_}
 use mathlib.Core.List.{List, _++_}
 use Prim.Native.Nat.{ℕ, _+_, _*_, _≤_, _<_}
@@ -12,15 +12,16 @@ use Rattle.model.specs.declared.Job.{Job}
 use Rattle.model.specs.declared.Read.{Read}
 use Rattle.model.specs.declared.Nearest.{Nearest}
 use Rattle.model.specs.Refusals.{Refusal}
-use Rattle.model.specs.Jobs.{outline, cellLog, judge}
+use Rattle.model.specs.Jobs.{coordinate, outline, cellLog, judge}
 use Rattle.model.specs.Bytes.{bytes}
 use Rattle.model.specs.Sheets.{sheetOf}
-use Rattle.model.specs.Trees.{anyLong}
+use Rattle.model.specs.Trees.{Tree, anyLong}
 use Rattle.model.specs.Store.{forest, nodesOf}
 use Rattle.model.specs.Fractions.{Frac, whole, Point, dist², _≤ᶠ_}
 use Rattle.model.specs.Plates.{Verdict, letter, columns, cellsOf, mapOf}
 use Rattle.model.specs.Exact.{Points, Outline, CellPoint, Clear, Inside, Exact, R-E, R+E, NoCloser, SomeNear, Demand3}
-use Rattle.model.specs.Distance.{lo, hi}
+use Rattle.model.specs.Distance.{lo, hi, Attains}
+use Rattle.model.specs.Lookup.{State, lookup}
 use Rattle.model.specs.Entries.{read, writeRefusal, write, writeLeaves, mapRefusal, map, mapCells, pointRefusal, IsNearest}
 use Rattle.model.specs.Printing.{printed}
 use Rattle.model.specs.Cases.{ReadApplies, WriteApplies, MapApplies, PointApplies, Lowest}
@@ -164,6 +165,16 @@ PointBounds = (j : Job) → judge j ≡ 0 → (x y : ℤ) → Bounds j (wholePoi
 -- what an accepted answer for a point bounds
 abbrev pub PointTrue : Type 0
 PointTrue = (j : Job) (x y : ℤ) (store : List ℤ) (r : Nearest) → IsNearest j x y store r → r .refusal ≡ 0 → Bounds j (wholePoint x y) (r .lo) (r .hi)
+
+-- ---- a lookup that skips gives the bounds over all leaves, and of the edges that may be named the first
+pub record FoundBy (ts : List Tree) (x y : ℤ) (r : State) : Type 0 where
+  pub lo-is : r .lo ≡ lo ts x y
+  pub hi-is : r .hi ≡ hi ts x y
+  pub attains : Attains ts x y (r .edge)
+  pub first : (e : ℕ) → e < r .edge → Attains ts x y e → ⊥
+
+abbrev pub LookupTrue : Type 0
+LookupTrue = (j : Job) → judge j ≡ 0 → (x y : ℤ) → coordinate x ≡ true → coordinate y ≡ true → FoundBy (forest j) x y (lookup (forest j) x y)
 
 -- ---- memory that is enough for every job, refused ones too
 -- 5,645 bytes for a sheet: no write is refused 7; and a sheet that has as many

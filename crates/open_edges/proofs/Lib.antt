@@ -1,3 +1,2 @@
 -- Laws that the proofs of the walks over open edges share.
-pub mod Asks
 pub mod Listing

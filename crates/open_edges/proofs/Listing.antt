@@ -6,27 +6,14 @@ use native.Mathlib.Numerals.{add-one}
 use native.Mathlib.Omega.{arith}
 use lib.IntN.{ℤ, pos, natAbs}
 use lib.ListN.{length, getD, set, take, drop}
-use lib.Seq.{take-all, take-suc-set, drop-drop}
+use lib.Seq.{take-all, take-suc-set}
 use Rattle.model.specs.Trees.{Tree}
 use Rattle.model.specs.Store.{width, size}
-use Rattle.ranges.specs.Sizes.{EachSized}
 use Rattle.nodes.specs.Places.{countPlace}
-use Rattle.subtrees.specs.Preorder.{BeginsAll, all-first, all-others}
 use Rattle.subtrees.specs.Fronts.{Holds}
-use Rattle.open_edges.specs.Starts.{At, Starts, none}
+use Rattle.subtrees.specs.At.{At, here, Ahead, first-at, next-ahead}
+use Rattle.open_edges.specs.Starts.{Starts, none}
 use Rattle.open_edges.specs.Looked.{starts-snoc}
-use Rattle.open_edges.proofs.Asks.{here}
-
--- from place a on the store holds the trees ts
-pub record Ahead (store : List ℤ) (a : ℕ) (ts : List Tree) : Type 0 where
-  pub begins : BeginsAll ts (drop a store)
-  pub sized : EachSized ts
-
-first-at : (store : List ℤ) (a : ℕ) (t : Tree) (ts : List Tree) → Ahead store a (t ∷ ts) → At store a t
-first-at store a t ts h = record { begins = all-first t ts (drop a store) (h .begins); sized = h .sized .0 }
-
-next-ahead : (store : List ℤ) (a : ℕ) (t : Tree) (ts : List Tree) → Ahead store a (t ∷ ts) → Ahead store (a + width * size t) ts
-next-ahead store a t ts h = record { begins = subst (BeginsAll ts) (drop-drop (width * size t) a store) (all-others t ts (drop a store) (h .begins)); sized = h .sized .1 }
 
 -- the e-th tree of a list
 pub record Nth (ts : List Tree) (e : ℕ) : Type 0 where

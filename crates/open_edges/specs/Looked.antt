@@ -15,7 +15,8 @@ use Rattle.verdicts.specs.AnswerCases.{clash, join-inside}
 use Rattle.strip_tests.specs.PlainTests.{code}
 use Rattle.inheritance.specs.Edges.{keep, opened}
 use Rattle.inheritance.specs.Trees.{left-inside, right-inside}
-use Rattle.open_edges.specs.Starts.{At, TreeAt, Starts, none, more, Forest}
+use Rattle.subtrees.specs.At.{At}
+use Rattle.open_edges.specs.Starts.{TreeAt, Starts, none, more, Forest}
 
 -- ---- joined answers
 join-assoc : (a b c : Answer) → join a (join b c) ≡ join (join a b) c

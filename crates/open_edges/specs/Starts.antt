@@ -3,18 +3,12 @@ use mathlib.Core.Path.{_≡_}
 use mathlib.Core.List.{List, [], _∷_}
 use Prim.Native.Nat.{ℕ, _≤_}
 use lib.IntN.{ℤ}
-use lib.ListN.{drop, take}
+use lib.ListN.{take}
 use Rattle.model.specs.Strips.{Strip}
 use Rattle.model.specs.Trees.{Tree}
 use Rattle.model.specs.Explore.{Answer, inside, exploreAll}
-use Rattle.ranges.specs.Sizes.{AllSized}
-use Rattle.subtrees.specs.Preorder.{Begins}
+use Rattle.subtrees.specs.At.{At}
 use Rattle.inheritance.specs.Edges.{opened}
-
--- the tree t starts at place a
-pub record At (store : List ℤ) (a : ℕ) (t : Tree) : Type 0 where
-  pub begins : Begins t (drop a store)
-  pub sized : AllSized t
 
 pub record TreeAt (store : List ℤ) (a : ℕ) : Type 0 where
   pub tree : Tree

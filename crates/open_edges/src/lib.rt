@@ -13,7 +13,8 @@ ghost use Rattle.model.specs.Explore.{explore};
 ghost use Rattle.strip_tests.specs.PlainTests.{code};
 ghost use Rattle.search.specs.Probes.{judgedBy, Fair};
 ghost use Rattle.subtrees.specs.Fronts.{Holds, TreesOf};
-ghost use Rattle.open_edges.specs.Starts.{At, TreeAt, Starts, Forest, AllInside, StillOpen};
+ghost use Rattle.subtrees.specs.At.{At};
+ghost use Rattle.open_edges.specs.Starts.{TreeAt, Starts, Forest, AllInside, StillOpen};
 
 // the answer of the tree that starts at place a
 fn ask(store: &[i32], a: usize, probe: Probe) -> u8

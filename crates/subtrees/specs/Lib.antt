@@ -2,6 +2,7 @@
 pub mod Preorder
 pub mod Begins
 pub mod Fronts
+pub mod At
 pub mod Pending
 pub mod Subtrees
 pub mod Counts

@@ -1,6 +1,6 @@
 -- `open_edges::ask` meets its contract: the tree's part is found by its count. Assumes nothing.
 use native.Mathlib.Omega.{arith}
-use Rattle.open_edges.proofs.Asks.{front, Here, here}
+use Rattle.subtrees.specs.At.{front, Here, here}
 use borrow.Author.Needs.{needs}
 use Rattle.open_edges.proofs.ask.Statement.{statement}
 use Rattle.open_edges.proofs.ask.Tie as tie

@@ -7,7 +7,7 @@ use lib.ListN.{length, take, length-set}
 use Rattle.model.specs.Trees.{Tree}
 use Rattle.subtrees.specs.Fronts.{Holds}
 use Rattle.open_edges.specs.Starts.{Starts}
-use Rattle.open_edges.proofs.Asks.{front, Here, here}
+use Rattle.subtrees.specs.At.{front, Here, here}
 use Rattle.open_edges.proofs.Listing.{Listed, begin, Step, step, finish}
 use Rattle.open_edges.proofs.list_starts.Statement.{statement}
 use Rattle.open_edges.proofs.list_starts.Tie as tie

@@ -2,32 +2,19 @@
 use mathlib.Core.Path.{_≡_, refl, ap, _∙_}
 use mathlib.Core.Bool.{Bool, true, false, cond}
 use mathlib.Core.List.{List, [], _∷_, _++_}
-use mathlib.Core.Logic.{inl, inr}
+use mathlib.Core.Logic.{inl, inr, ⊎-elim}
 use Prim.Native.Nat.{ℕ, zero, suc, _≤_, _<_}
 use native.Mathlib.Omega.{arith}
 use lib.IntN.{ℤ}
 use lib.ListN.{length, length-append}
-use lib.Signed.{ltZ, clashℤ}
-use Rattle.integers.specs.Tests.{lt-true, lt-false, true-lt}
-use Rattle.integers.specs.Order.{_≼_}
-use Rattle.integers.specs.Inequalities.{≼-trans, ≺-≼-trans, weak}
+use lib.Signed.{ltZ}
+use Rattle.integers.specs.Order.{_≼_, ≼-refl}
+use Rattle.integers.specs.Inequalities.{≼-trans}
 use Rattle.model.specs.Strips.{Strip}
 use Rattle.model.specs.Trees.{Tree, leaf, long, node}
-use Rattle.model.specs.Distance.{leaves, leavesAll, leavesAt, lesser, least, Some}
-
--- ---- the lesser of two
-is-false : (a b : ℤ) → b ≼ a → (t : Bool) → ltZ a b ≡ t → t ≡ false
-is-false a b h true e = clashℤ (lt-true {a = a} {b = b} e) h
-is-false a b h false e = refl
-
-pub lesser-assoc : (a b c : ℤ) → lesser a (lesser b c) ≡ lesser (lesser a b) c
-lesser-assoc a b c = go (ltZ c b) (ltZ b a) refl refl
-  where
-    go : (p q : Bool) → ltZ c b ≡ p → ltZ b a ≡ q → lesser a (lesser b c) ≡ lesser (lesser a b) c
-    go true true e f = rw (e, f, e, true-lt {a = c} {b = a} (≺-≼-trans (lt-true {a = c} {b = b} e) (weak (lt-true {a = b} {b = a} f))))
-    go true false e f = rw (e, f)
-    go false true e f = rw (e, f, e)
-    go false false e f = rw (e, f, is-false c a (≼-trans (lt-false {a = b} {b = a} f) (lt-false {a = c} {b = b} e)) (ltZ c a) refl)
+use Rattle.model.specs.Boxes.{lesser}
+use Rattle.model.specs.Distance.{leaves, leavesAll, leavesAt, least, Some}
+use Rattle.skipping.specs.Extremes.{lesser-≼, lesser-assoc}
 
 -- ---- least values
 module _ (f : Strip → ℤ) where
@@ -49,6 +36,15 @@ module _ (f : Strip → ℤ) where
       go : (p : Bool) → Some (λ t. f t ≡ least f (u ∷ l)) (u ∷ l) → Some (λ t. f t ≡ cond p (least f (u ∷ l)) (f s)) (s ∷ u ∷ l)
       go true w = inr w
       go false w = inl refl
+
+  -- and none is below it
+  pub none-below : (l : List Strip) (z : ℤ) → Some (λ s. f s ≡ z) l → least f l ≼ z
+  unfolding least
+  none-below [] z w = absurd w
+  none-below (s ∷ []) z w = ⊎-elim (λ e. ≼-refl e) (λ n. absurd n) w
+  none-below (s ∷ u ∷ l) z w =
+      let h = lesser-≼ (f s) (least f (u ∷ l)) in
+      ⊎-elim (λ e. ≼-trans (h .0) (≼-refl e)) (λ v. ≼-trans (h .1) (none-below (u ∷ l) z v)) w
 
 -- ---- every tree has a leaf
 pub leaf-there : (t : Tree) → 1 ≤ length (leaves t)
