@@ -40,6 +40,9 @@ impl Maker {
     }
 }
 
+/// Nodes from which on a lookup is timed: with fewer there is too little to time.
+const LOOKUP_NODES: usize = 1_000;
+
 /// What is timed.
 #[derive(Clone, Copy, Debug, PartialEq, Eq)]
 pub enum Row {
@@ -49,17 +52,19 @@ pub enum Row {
     Map,
     Draw,
     Point,
+    Lookup,
     Program,
 }
 
 impl Row {
-    pub const ALL: [Row; 7] = [
+    pub const ALL: [Row; 8] = [
         Row::Read,
         Row::Write,
         Row::Build,
         Row::Map,
         Row::Draw,
         Row::Point,
+        Row::Lookup,
         Row::Program,
     ];
 
@@ -71,6 +76,7 @@ impl Row {
             Row::Map => "map",
             Row::Draw => "draw",
             Row::Point => "point",
+            Row::Lookup => "lookup",
             Row::Program => "program",
         }
     }
@@ -110,7 +116,7 @@ macro_rules! library_call {
             Row::Point => Box::new(move || {
                 timed(|| $library::point(black_box(&job), x, y, black_box(&$case.store)))
             }),
-            Row::Program => return None,
+            Row::Lookup | Row::Program => return None,
         };
         Some(call)
     }};
@@ -140,7 +146,7 @@ impl Case {
     }
 
     /// The middle of the plate, where a point is asked.
-    fn spot(&self) -> (i32, i32) {
+    pub fn spot(&self) -> (i32, i32) {
         let limit = reference::COORDINATE_LIMIT;
         let half = (1 << self.job.n) / 2;
         (
@@ -173,8 +179,12 @@ impl Case {
         if row == Row::Draw && self.is_plain() {
             return None;
         }
+        if row == Row::Lookup && self.nodes < LOOKUP_NODES {
+            return None;
+        }
         match maker {
             Maker::Proved => self.proved_call(row),
+            Maker::Reference if row == Row::Lookup => self.reference_lookup(),
             Maker::Reference => library_call!(reference, self, row),
             Maker::Sampling => self.sampling_call(row),
             Maker::SameTricks => self.same_tricks_call(row),
@@ -183,12 +193,37 @@ impl Case {
 
     #[cfg(feature = "proved")]
     fn proved_call(&self, row: Row) -> Option<Call<'_>> {
+        if row == Row::Lookup {
+            return self.proved_lookup();
+        }
         library_call!(clearance, self, row)
+    }
+
+    /// It has no entry without the check of the store. A store that is wrong in
+    /// its last number is checked as far and never looked up in.
+    #[cfg(feature = "proved")]
+    fn proved_lookup(&self) -> Option<Call<'_>> {
+        let (x, y) = self.spot();
+        let job = clearance::read(&self.sheet).ok()?;
+        let point = |store: Vec<i32>| -> Call<'_> {
+            Box::new(move || timed(|| clearance::point(black_box(&job), x, y, black_box(&store))))
+        };
+        let mut stranger = self.store.clone();
+        *stranger.last_mut()? ^= 1;
+        Some(less(point(self.store.clone()), point(stranger)))
     }
 
     #[cfg(not(feature = "proved"))]
     fn proved_call(&self, _row: Row) -> Option<Call<'_>> {
         None
+    }
+
+    fn reference_lookup(&self) -> Option<Call<'_>> {
+        let (x, y) = self.spot();
+        let trees = reference::trees::grow(&self.job).ok()?;
+        Some(Box::new(move || {
+            timed(|| reference::lookup(black_box(&trees), x, y))
+        }))
     }
 
     fn program_call(&self, maker: Maker) -> Option<Call<'_>> {
@@ -221,7 +256,7 @@ impl Case {
             })),
             Row::Map => Some(map(self.job.clone())),
             Row::Draw => Some(less(map(self.job.clone()), map(self.one_cell_job()))),
-            Row::Point => {
+            Row::Point | Row::Lookup => {
                 let polyline = sampling::polyline(&self.job, steps);
                 Some(Box::new(move || {
                     timed(|| sampling::distance(black_box(&polyline), black_box(spot)))

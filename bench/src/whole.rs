@@ -18,7 +18,7 @@ pub fn run_as(maker: Maker, steps: usize) -> io::Result<()> {
         if maker == Maker::Sampling {
             return Ok(listing::map(&sampling::map(&job, steps)));
         }
-        let mut store = [0; 16_380];
+        let mut store = [0; 16_379];
         let mut cells = [0; 65_536];
         map(&job, &mut store, &mut cells)?;
         Ok(listing::map(&cells[..1 << (2 * (job.n - job.m))]))

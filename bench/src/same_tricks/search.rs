@@ -2,6 +2,10 @@
 
 use clearance_reference::trees::NUMBERS_A_NODE;
 
+/// Where a node has the count of nodes in its subtree. Its box comes behind and
+/// is for points alone.
+const SUBTREE_COUNT: usize = 6;
+
 /// Of a node by itself, or of a tree.
 #[derive(Clone, Copy, PartialEq, Eq)]
 pub enum Answer {
@@ -27,7 +31,7 @@ fn is_beyond(cross: i64, r: i64, low: i64, square: i64) -> bool {
 
 /// What one node says by itself of the cell at (x, y) with half side s.
 fn own_answer(node: &[i32; NUMBERS_A_NODE], x: i64, y: i64, s: i64, r: i64) -> Answer {
-    let [zx, zy, p, q, bx, by, _] = node.map(i64::from);
+    let [zx, zy, p, q, bx, by, ..] = node.map(i64::from);
     let (wx, wy) = (x - zx, y - zy);
     let (a, b) = (bx + s, by + s);
     let (far_x, far_y) = (wx.abs() + p.abs() + a, wy.abs() + q.abs() + b);
@@ -72,7 +76,7 @@ pub fn search(part: &[i32], x: i64, y: i64, s: i64, r: i64, enough: Answer) -> A
 
 /// The numbers of the tree that starts here.
 pub fn tree_length(store: &[i32], start: usize) -> usize {
-    NUMBERS_A_NODE * store[start + NUMBERS_A_NODE - 1] as usize
+    NUMBERS_A_NODE * store[start + SUBTREE_COUNT] as usize
 }
 
 /// The answer above which no node goes: where the cell alone reaches too far,
