@@ -126,12 +126,13 @@ enum {
 /* The most cells of a map, one byte each: enough for every job. */
 #define CLEARANCE_CELLS_MOST 65536
 /* The numbers of a node in the store: centre x, y, axis x, y, box x, y, and the
- * count of nodes in its subtree, itself included. */
-#define CLEARANCE_NODE_NUMBERS 7
+ * count of nodes in its subtree, itself included; then least x, y and greatest
+ * x, y of the smallest upright box around the leaves of its subtree. */
+#define CLEARANCE_NODE_NUMBERS 11
 /* The most nodes of one edge's tree: ten halvings of every piece. */
 #define CLEARANCE_TREE_NODES_MOST 2047
-/* The most numbers of a store, 64 * 2047 * 7: enough for every job. */
-#define CLEARANCE_STORE_MOST 917056
+/* The most numbers of a store, 64 * 2047 * 11: enough for every job. */
+#define CLEARANCE_STORE_MOST 1441088
 
 /* The letters of a map. */
 /* Every point of the cell is at least the reach away from every point of the outline. */
@@ -182,9 +183,9 @@ uint8_t clearance_write(const int32_t *job, size_t job_len,
  * row from the lowest x on, nothing between rows.
  *
  * job, job_len      any numbers
- * store, store_len  the trees are written to the start, seven numbers a node:
+ * store, store_len  the trees are written to the start, eleven numbers a node:
  *                   a node, its left half's subtree, its right half's; the
- *                   edges in the order of the job. 917056 numbers are always
+ *                   edges in the order of the job. 1441088 numbers are always
  *                   enough
  * cells, cells_len  the map is written to the start; 65536 bytes are always
  *                   enough

@@ -14,7 +14,7 @@ static const char sheet[] =
     ")\n";
 
 /* As much as the program lends. */
-static int32_t store[16380];
+static int32_t store[16379];
 static uint8_t cells[CLEARANCE_CELLS_MOST];
 
 int main(void)

@@ -67,9 +67,9 @@ pub fn write(job: &Job, out: &mut [u8]) -> Result<usize, Refusal> {
 /// use clearance::{map, read, Refusal};
 ///
 /// let job = read(b"(job\n(plate 0 0 1)\n(cell 0)\n(reach 90)\n(edge (0 0) (0 0) (0 0) (0 0))\n)\n")?;
-/// let (mut store, mut cells) = ([0; 7], [0; 4]);
+/// let (mut store, mut cells) = ([0; 11], [0; 4]);
 /// assert_eq!(map(&job, &mut store, &mut cells), Ok(1));
-/// assert_eq!(store, [0, 0, 0, 0, 0, 0, 1]);
+/// assert_eq!(store, [0, 0, 0, 0, 0, 0, 1, 0, 0, 0, 0]);
 /// assert_eq!(&cells, b"IIII");
 /// assert_eq!(map(&job, &mut store[1..], &mut cells), Err(Refusal::Store));
 /// # Ok::<(), Refusal>(())
@@ -99,7 +99,7 @@ pub fn map(job: &Job, store: &mut [i32], cells: &mut [u8]) -> Result<usize, Refu
 /// use clearance::{map, point, read, Refusal};
 ///
 /// let job = read(b"(job\n(plate 0 0 1)\n(cell 0)\n(reach 90)\n(edge (0 0) (0 0) (0 0) (0 0))\n)\n")?;
-/// let (mut store, mut cells) = ([0; 7], [0; 4]);
+/// let (mut store, mut cells) = ([0; 11], [0; 4]);
 /// assert_eq!(point(&job, 3, 4, &store), Err(Refusal::Stranger));
 /// map(&job, &mut store, &mut cells)?;
 /// assert_eq!(point(&job, 3, 4, &store)?.hi, 6400);

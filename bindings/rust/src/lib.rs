@@ -50,10 +50,12 @@ pub const SHEET_READ_MOST: usize = 8_192;
 pub const SHEET_WRITTEN_MOST: usize = 5_645;
 /// The most cells of a map, one byte each: enough for every job.
 pub const CELLS_MOST: usize = 65_536;
-/// The numbers of a node in the store.
-pub const NODE_NUMBERS: usize = 7;
+/// The numbers of a node in the store: centre, axis and box of its strip, x and
+/// y each, and the count of nodes in its subtree; then least x and y and greatest
+/// x and y of the upright box around its leaves.
+pub const NODE_NUMBERS: usize = 11;
 /// The most numbers of a store: enough for every job.
-pub const STORE_MOST: usize = 917_056;
+pub const STORE_MOST: usize = 1_441_088;
 
 // Its program runs with the examples of the documentation.
 #[cfg(doctest)]

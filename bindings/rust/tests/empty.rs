@@ -37,7 +37,7 @@ fn safe_calls_take_empty_slices() {
         assert_eq!(read(&bytes), Err(Refusal::Form));
         assert_eq!(write(&job, &mut bytes), Err(Refusal::Space));
         assert_eq!(map(&job, &mut store, &mut [0; 4]), Err(Refusal::Store));
-        assert_eq!(map(&job, &mut [0; 7], &mut bytes), Err(Refusal::Space));
+        assert_eq!(map(&job, &mut [0; 11], &mut bytes), Err(Refusal::Space));
         assert_eq!(point(&job, 3, 4, &store), Err(Refusal::Store));
     }
 }

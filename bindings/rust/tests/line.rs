@@ -2,7 +2,8 @@
 //! and without marks.
 
 use clearance::{
-    ffi, map, point, read, write, Job, Refusal, CUBIC, JOB_NUMBERS, LINE, MARKS, PLACES,
+    ffi, map, point, read, write, Job, Refusal, CUBIC, JOB_NUMBERS, LINE, MARKS, NODE_NUMBERS,
+    PLACES,
 };
 
 /// A line between two cubics, all of one point but the line.
@@ -55,9 +56,10 @@ fn a_line_is_read_and_written_as_one() {
 
 #[test]
 fn a_line_is_drawn_without_rounding() {
-    let (mut store, mut cells) = ([0; 7 * 9], [0; 64]);
+    let (mut store, mut cells) = ([0; NODE_NUMBERS * 9], [0; 64]);
     assert_eq!(map(&job(), &mut store, &mut cells), Ok(9));
-    assert_eq!(store[7..14], [0, 0, 96, 48, 0, 0, 7]);
+    let line = &store[NODE_NUMBERS..2 * NODE_NUMBERS];
+    assert_eq!(line, [0, 0, 96, 48, 0, 0, 7, -96, -48, 96, 48]);
     let nearest = point(&job(), 6, 3, &store).unwrap();
     assert_eq!((nearest.lo, nearest.edge), (0, 1));
 }
