@@ -38,7 +38,7 @@ pub fn all(random: &mut Random, tally: &mut Tally) -> Result<(), Fault> {
     compare_write(random, &job, tally)?;
     let mut store = compare_map(random, &job, tally)?;
     if random.once_in(4) {
-        store[0] ^= 1;
+        store[random.below(clearance::NODE_NUMBERS)] ^= 1;
     }
     compare_point(random, &job, &store, tally)
 }

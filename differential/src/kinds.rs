@@ -41,7 +41,7 @@ const fn with_ties(kind: Kind) -> Kind {
 }
 
 /// All of them.
-pub const KINDS: [Kind; 16] = [
+pub const KINDS: [Kind; 17] = [
     kind("sheets of legal jobs", 8, &[0], read_case::legal),
     kind("sheets of odd numbers", 16, &[0, 2, 3, 4], read_case::odd),
     kind("sheets damaged", 32, &[0, 1, 2, 3, 4], read_case::damaged),
@@ -65,6 +65,7 @@ pub const KINDS: [Kind; 16] = [
     ),
     kind("points answered", 8, &[0, 2, 5], point_case::answered),
     kind("points by store", 10, &[0, 5, 6, 8], point_case::stores),
+    kind("points by number", 3, &[0, 6, 8], point_case::numbers),
     kind(
         "points of odd jobs",
         10,

@@ -7,7 +7,7 @@ use crate::numbers::{binding_job, describe, reference_job, Numbers, COUNT, M, N}
 use crate::random::Random;
 use crate::rows::Row;
 use crate::spoiling::spoil;
-use crate::stores::right_numbers;
+use crate::stores::{lengths_about, right_numbers};
 use crate::tally::Tally;
 use crate::ties::{tied_job, Tie};
 use clearance::ffi;
@@ -129,17 +129,18 @@ pub fn lengths(random: &mut Random, tally: &mut Tally) -> Result<(), Fault> {
     let any = (random.below(numbers), random.below(bytes));
     for lent in [
         (0, 0),
-        (0, bytes),
         (numbers, 0),
         (numbers - 1, bytes - 1),
         (numbers - 1, bytes + 1),
         (numbers, bytes - 1),
-        (numbers, bytes),
         (numbers + 1, bytes + 1),
         (any.0, bytes),
         (numbers + 50, any.1),
     ] {
         compare(&job, lent, random.bits(), tally)?;
+    }
+    for lent in lengths_about(numbers) {
+        compare(&job, (lent, bytes), random.bits(), tally)?;
     }
     Ok(())
 }

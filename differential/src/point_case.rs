@@ -2,14 +2,17 @@
 //! attain hi the library may name any.
 
 use crate::fault::{number_of, Comparison, Fault};
-use crate::jobs::{sketch_job, tuned_job};
+use crate::jobs::{crowded_job, sketch_job, tuned_job};
 use crate::lent::Lent;
 use crate::numbers::{describe, reference_job, Numbers};
 use crate::random::Random;
 use crate::rows::Row;
 use crate::spoiling::spoil;
 use crate::spots::{odd_spot, spot_in_range};
-use crate::stores::{changed_store, others_store, right_numbers, right_store, short_store};
+use crate::stores::{
+    boxless_store, changed_store, lengths_about, others_store, places_of_three_nodes,
+    right_numbers, right_store, short_store, store_of_length, store_with_change,
+};
 use crate::tally::Tally;
 use clearance::ffi;
 use clearance_reference::trees;
@@ -76,9 +79,12 @@ fn attains(job: &Numbers, edge: i64, spot: [i32; 2], hi: i64) -> bool {
     })
 }
 
-/// Points in range, asked of the right store.
+/// Points in range, asked of the right store. Many edges leave much to skip.
 pub fn answered(random: &mut Random, tally: &mut Tally) -> Result<(), Fault> {
-    let job = tuned_job(random, 8);
+    let job = match random.below(8) {
+        0 => crowded_job(random),
+        _ => tuned_job(random, 8),
+    };
     let right = right_numbers(&job);
     for _ in 0..4 {
         let spot = spot_in_range(random, &job);
@@ -93,13 +99,46 @@ pub fn stores(random: &mut Random, tally: &mut Tally) -> Result<(), Fault> {
     let job = tuned_job(random, 8);
     let right = right_numbers(&job);
     let spot = spot_in_range(random, &job);
+    let enough = random.once_in(2);
     for store in [
         right_store(random, &right),
         short_store(random, &right),
         changed_store(random, &right),
         changed_store(random, &right),
+        boxless_store(random, &right, enough),
         others_store(random, &job),
     ] {
+        compare(&job, spot, &store, random.bits(), tally)?;
+    }
+    Ok(())
+}
+
+/// Points asked of stores of every length about the one needed, then with each
+/// number of three nodes changed in turn, then without the upright boxes. A long
+/// job has no store and is asked about once.
+pub fn numbers(random: &mut Random, tally: &mut Tally) -> Result<(), Fault> {
+    let job = sketch_job(random, 8);
+    let right = right_numbers(&job);
+    let spot = spot_in_range(random, &job);
+    if right.is_empty() {
+        return compare(
+            &job,
+            spot,
+            &right_store(random, &right),
+            random.bits(),
+            tally,
+        );
+    }
+    for length in lengths_about(right.len()) {
+        let store = store_of_length(random, &right, length);
+        compare(&job, spot, &store, random.bits(), tally)?;
+    }
+    for place in places_of_three_nodes(right.len()) {
+        let store = store_with_change(random, &right, place);
+        compare(&job, spot, &store, random.bits(), tally)?;
+    }
+    for enough in [false, true] {
+        let store = boxless_store(random, &right, enough);
         compare(&job, spot, &store, random.bits(), tally)?;
     }
     Ok(())

@@ -1,9 +1,9 @@
 //! Points to ask for.
 
-use crate::numbers::{Numbers, PLACE, PLACES, X, Y};
+use crate::numbers::{Numbers, COUNT, PLACE, PLACES, X, Y};
 use crate::random::Random;
 use crate::spoiling::odd_number;
-use clearance_reference::COORDINATE_LIMIT;
+use clearance_reference::{COORDINATE_LIMIT, EDGE_LIMIT};
 
 /// A point in range: about the outline or the plate, or anywhere.
 pub fn spot_in_range(random: &mut Random, job: &Numbers) -> [i32; 2] {
@@ -13,7 +13,8 @@ pub fn spot_in_range(random: &mut Random, job: &Numbers) -> [i32; 2] {
         1 => [0; 2].map(|_| random.between(-COORDINATE_LIMIT, COORDINATE_LIMIT)),
         2 => [0; 2].map(|_| random.choose(&[-COORDINATE_LIMIT, COORDINATE_LIMIT])),
         _ => {
-            let point = PLACES + 2 * random.below(PLACE / 2);
+            let edges = job[COUNT].clamp(1, EDGE_LIMIT as i32) as usize;
+            let point = PLACES + PLACE * random.below(edges) + 2 * random.below(PLACE / 2);
             [job[point], job[point + 1]]
         }
     };
