@@ -3,9 +3,10 @@
 from dataclasses import dataclass
 
 DEEPEST = 10
-NUMBERS_A_NODE = 7
+# Seven of the strip and its subtree, four of the box around the leaves.
+NUMBERS_A_NODE = 11
 # What the program lends.
-LENT_NUMBERS = 16_380
+LENT_NUMBERS = 16_379
 
 
 @dataclass(frozen=True)

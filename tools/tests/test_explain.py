@@ -8,8 +8,8 @@ import strips
 from tests.samples import EDGE, EXAMPLES, LINE, SHEET, Folder, run
 
 LONG_EDGE = b"(edge (0 0) (333333 0) (666666 0) (999999 0))\n"
-# A straight edge with as many nodes as a tree may have.
-FULL_EDGE = b"(edge (0 0) (3000 0) (6000 0) (9000 0))\n"
+# Straight edges that at grain 489 have 1,023, 255, 127, 63, 15, 3 and 3 nodes, just what fits the lent store.
+LENGTHS_THAT_FIT = (450_000, 123_000, 60_000, 30_000, 6_000, 1_500, 1_500)
 
 
 def with_edges(edges, grain=b"1"):
@@ -105,14 +105,22 @@ class Explanations(unittest.TestCase):
         longest = b"(line (-1000000 0) (1000000 0))\n"
         text = self.said(5, with_edges(LINE + longest, b"976"))
         self.assertIn("line 7: edge 1 is long, the smallest grain for it is 977", text)
-        self.assertEqual(reasons.reason(with_edges(LINE + longest, b"977")).number, 0)
+        self.assertEqual(reasons.reason(with_edges(LINE + longest, b"977")).number, 6)
 
     def test_store(self):
-        text = self.said(6, with_edges(FULL_EDGE * 2, b"5"))
-        self.assertIn("28,658 (4,094 nodes), lent: 16,380", text)
+        text = self.said(6, with_edges(LONG_EDGE, b"489"))
+        self.assertIn("22,517 (2,047 nodes), lent: 16,379", text)
         grain = int(text.split("they fit: ")[1].split()[0])
         for enough, number in ((grain, 0), (grain - 1, 6)):
-            self.assertEqual(reasons.reason(with_edges(FULL_EDGE * 2, b"%d" % enough)).number, number)
+            self.assertEqual(reasons.reason(with_edges(LONG_EDGE, b"%d" % enough)).number, number)
+
+    def test_just_enough_store(self):
+        ends = [(length // 3, 2 * length // 3, length) for length in LENGTHS_THAT_FIT]
+        edges = b"".join(b"(edge (0 0) (%d 0) (%d 0) (%d 0))\n" % end for end in ends)
+        accepted = reasons.reason(with_edges(edges, b"489"))
+        self.assertEqual(accepted.number, 0)
+        self.assertIn("and the store 16,379 numbers", accepted.lines)
+        self.assertIn("16,390 (1,490 nodes), lent: 16,379", self.said(6, with_edges(edges + EDGE, b"489")))
 
     def test_no_grain_is_enough(self):
         # 43 nodes even at the largest grain.
@@ -125,7 +133,7 @@ class Explanations(unittest.TestCase):
             self.assertIn("only from a library call", text)
             self.assertIn("64 bytes", text)
             self.assertIn(f"{len(SHEET)} bytes", text)
-            self.assertIn("7 numbers", text)
+            self.assertIn("store 11 numbers", text)
         self.assertFalse(reasons.explanation(7, with_edges(b""))[0])
 
     def test_the_length_that_is_written(self):
