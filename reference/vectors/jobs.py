@@ -6,6 +6,11 @@ import random
 
 TOP = pathlib.Path(__file__).resolve().parents[2]
 POINT = [0] * 8
+# Of a point these ask nothing that others do not: they differ in plate and reach alone, are long like others, or only add to chance.
+NOT_FOR_POINTS = {
+    "one_cell", "plate_as_cell", "cells_256_a_side", "reach_below_band", "reach_huge", "reach_exact",
+    "straight_long", "pad_none_long", *(f"random_{k:02}" for k in range(8, 16)),
+}
 
 cases = {}
 
@@ -113,6 +118,34 @@ def pads():
     case("pad_none_long", -8, -8, 4, 1, 4, 2, [just])
 
 
+def around():
+    """Points with the outline on several sides of them."""
+    right = [48, -64, 16, -32, 16, 32, 48, 64]
+    left = [-48, -64, -16, -32, -16, 32, -48, 64]
+    # The origin is midway: both edges give the same hi there, and the first is named.
+    case("mirrored_edges", -64, -64, 7, 2, 12, 2, [left, right])
+    case("mirrored_edges_exchanged", -64, -64, 7, 2, 12, 2, [right, left])
+    # Of these it is the second.
+    case("equal_edges", -64, -64, 7, 2, 12, 2, [[-60, 60] * 4, right, right])
+    # A closed outline with rounded corners; the upper side is the nearest to the origin.
+    case("outline_around", -70, -80, 8, 3, 20, 2,
+         [[-35, -69, 45, -69], [45, -69, 56, -69, 65, -60, 65, -49], [65, -49, 65, 31], [65, 31, 65, 42, 56, 51, 45, 51],
+          [45, 51, -35, 51], [-35, 51, -46, 51, -55, 42, -55, 31], [-55, 31, -55, -49], [-55, -49, -55, -60, -46, -69, -35, -69]])
+
+
+def sizes():
+    """Trees that just fit what the program lends, 1,489 nodes, and that just do not; and the deepest that do."""
+    fitting = [line(0, 0, length, 0) for length in (450000, 123000, 60000, 30000, 6000, 1500, 1500)]
+    case("nodes_1489", -8192, -8192, 14, 10, 4000, 489, fitting)
+    case("nodes_1490", -8192, -8192, 14, 10, 4000, 489, fitting + [POINT])
+    # Only where it is fast are its pieces halved ten times: 899 nodes, and with a finer grain it is long.
+    fast_end = cubic([0, 0, 0, 9000], [0] * 4)
+    case("deepest_at_one_end", 8000, -512, 10, 5, 100, 14, [fast_end])
+    case("deepest_at_one_end_long", 8000, -512, 10, 5, 100, 13, [fast_end])
+    # Without a pad, and just short after nine halvings.
+    case("pad_none_just_short_of_nine", -8, -8, 4, 1, 4, 3, [cubic([0, 1024, 2048, 3072], [0] * 4)])
+
+
 def touching():
     """Cells exactly at the reach, which are clear, and cells that miss it, each named by its lower left corner."""
     # Beside the upright box of a slanting line; those at (8, 2) and (-4, 4) touch across the slant.
@@ -162,19 +195,22 @@ def store(crate, names):
 
 
 def main():
-    for group in (shapes, plates, extremes, refused, random_jobs, lines, pads):
+    for group in (shapes, plates, extremes, refused, random_jobs, lines, pads, around):
         group()
-    small = list(cases)
+    for_points = [name for name in cases if name not in NOT_FOR_POINTS]
     straight = [0, 0, 333333, 0, 666666, 0, 999999, 0]
     case("refused_6", 0, -8, 4, 2, 4, 489, [straight, straight])
     case("straight_longest_977", 0, -8, 4, 2, 4, 977, [[-1000000, 0, 1000000, 0]])
     case("straight_longest_976", 0, -8, 4, 2, 4, 976, [[-1000000, 0, 1000000, 0]])
+    sizes()
     # Not for points: their bounds know no reach.
     touching()
     for path in sorted((TOP / "examples").glob("*.sheet")):
         cases["example_" + path.stem] = path.read_text()
+    # With a finer grain its trees do not fit the lent store.
+    cases["example_screen_fine"] = cases["example_screen"].replace("(grain 100)", "(grain 60)")
     store("map_cases", list(cases))
-    store("point_cases", small + ["example_bracket", "example_washer"])
+    store("point_cases", for_points + ["example_bracket", "example_washer"])
 
 
 main()
