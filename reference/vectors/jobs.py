@@ -138,6 +138,9 @@ def sizes():
     fitting = [line(0, 0, length, 0) for length in (450000, 123000, 60000, 30000, 6000, 1500, 1500)]
     case("nodes_1489", -8192, -8192, 14, 10, 4000, 489, fitting)
     case("nodes_1490", -8192, -8192, 14, 10, 4000, 489, fitting + [POINT])
+    # The longest straight edges with the least grains at which they are drawn: 1,023 nodes each.
+    case("straight_977", 0, -8, 4, 2, 4, 977, [line(0, 0, 999999, 0)])
+    case("straight_longest_1954", 0, -8, 4, 2, 4, 1954, [[-1000000, 0, 1000000, 0]])
     # Only where it is fast are its pieces halved ten times: 899 nodes, and with a finer grain it is long.
     fast_end = cubic([0, 0, 0, 9000], [0] * 4)
     case("deepest_at_one_end", 8000, -512, 10, 5, 100, 14, [fast_end])
