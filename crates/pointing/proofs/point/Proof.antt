@@ -1,5 +1,5 @@
--- Each return is one of the answers of `Answers`. Assumes nothing.
-use mathlib.Core.Path.{_≡_, refl, sym, _∙_}
+-- Each return is one of the answers of `Found`. Assumes nothing.
+use mathlib.Core.Path.{_≡_, refl, sym, ap, _∙_, subst}
 use mathlib.Core.Bool.{true}
 use borrow.Author.Needs.{needs}
 use lib.ListN.{length}
@@ -10,10 +10,12 @@ use Rattle.integers.specs.Signed.{fits32, read64}
 use Rattle.model.specs.Refusals.{check, first, stranger}
 use Rattle.model.specs.Jobs.{outline}
 use Rattle.model.specs.Store.{forest, storeOf, begins}
+use Rattle.model.specs.Distance.{Attains}
+use Rattle.model.specs.Lookup.{State}
 use Rattle.ranges.specs.Jobs.{grain-sized}
 use Rattle.forests.specs.Told.{checksOf, Told, told-of, trees-ready, whole-ready}
 use Rattle.pointing.specs.Checks.{asking}
-use Rattle.pointing.proofs.Found.{refuse, accept, asked, Passed, passed, trees-refused, store-answer, begun, trees-many, trees-there}
+use Rattle.pointing.proofs.Found.{refuse, accept, asked, Passed, passed, trees-refused, store-answer, begun, lookup-found, trees-held}
 use Rattle.pointing.proofs.point.Statement.{statement}
 use Rattle.pointing.proofs.point.Tie as tie
 
@@ -101,7 +103,7 @@ nearest-requires c κs =
     let g = c .before .before .before .before .before .before .before .before .before .before .before .before in
     let s = g .before .before in
     let p = good g in
-    rw (toZ-ofZ (s .fits .x), toZ-ofZ (s .fits .y)) (trees-there (s .args .job) (s .args .x) (s .args .y) (s .args .store .now) p (holds c), p .job .some, p .job .few, p .x-in, p .y-in)
+    rw (toZ-ofZ (s .fits .x), toZ-ofZ (s .fits .y)) (record { trees = forest (s .args .job); holds = trees-held (s .args .job) (s .args .x) (s .args .y) (s .args .store .now) p (holds c) }, p .job .some, p .job .few, p .x-in, p .y-in)
 
 returns-4 : tie.Need-returns-4
 returns-4 c =
@@ -113,9 +115,13 @@ returns-4 c =
     let s = g .before .before in
     let p = good g in
     let f = d .nearest .result in
-    let a = rw (toZ-ofZ (s .fits .x), toZ-ofZ (s .fits .y)) at (d .nearest .ensures (forest (s .args .job)) (trees-many (s .args .job) (s .args .x) (s .args .y) (s .args .store .now) p) (holds o)) in
+    let a = rw (toZ-ofZ (s .fits .x), toZ-ofZ (s .fits .y)) at (d .nearest .ensures (forest (s .args .job)) (trees-held (s .args .job) (s .args .x) (s .args .y) (s .args .store .now) p (holds o))) in
+    let w = lookup-found (s .args .job) (s .args .x) (s .args .y) (s .args .store .now) p in
     let z = store-answer (s .args .job) (s .args .x) (s .args .y) (s .args .store .now) p (trees-pass e) (h .check-store .result) (store-is h) ∙ o .if3 .left in
-    accept (s .args .job) (s .args .x) (s .args .y) (s .args .store .now) _ z refl (read64 (f .lo) (c .struct-told2 .given .0 .1) ∙ a .0) (read64 (f .hi) (c .struct-told2 .given .1 .0 .1) ∙ a .1) (a .2)
+    accept (s .args .job) (s .args .x) (s .args .y) (s .args .store .now) _ z refl
+    (read64 (f .lo) (c .struct-told2 .given .0 .1) ∙ ap (λ (st : State). st .lo) a ∙ w .lo-is)
+    (read64 (f .hi) (c .struct-told2 .given .1 .0 .1) ∙ ap (λ (st : State). st .hi) a ∙ w .hi-is)
+    (subst (Attains (forest (s .args .job)) (s .args .x) (s .args .y)) (sym (ap (λ (st : State). st .edge) a)) (w .attains))
 
 pub point-spec : {M : Type 1} → statement M
 point-spec =
