@@ -1,8 +1,11 @@
-// Asks a fixed row of questions of each stored sheet's job, a line for each answer: eight points given the job's own store, and one point given
-// stores that are longer, shorter or changed. The second implementation asks the same.
+// Asks a fixed row of questions of each stored sheet's job, a line for each answer: ten points given the job's own store, and one point given
+// stores that are longer, shorter, changed in one number or without boxes. Beside the bounds it shows how many nodes the lookup read. The second
+// implementation asks the same.
 use libc::STDOUT_FILENO;
 use model::Job;
 use model::Nearest;
+use nodes::LEAST;
+use nodes::WIDTH;
 ghost use Prim.Native.Nat.{_≤_};
 ghost use Rattle.model.specs.Entries.{IsNearest};
 
@@ -16,7 +19,7 @@ fn show_number(before: &[u8], n: u64) {
     io::print_decimal(STDOUT_FILENO, n);
 }
 
-// Shows an answer to a question, and nothing else.
+// Shows an answer to a question, with the nodes that were read for it, and nothing else.
 fn show_nearest(near: Nearest, job: Job, x: i32, y: i32, store: &[i32])
     requires answer { ⌜ IsNearest job x y (now store) near ⌝ }
 {
@@ -28,6 +31,9 @@ fn show_nearest(near: Nearest, job: Job, x: i32, y: i32, store: &[i32])
     show_number(b"(point ", printable(near.lo));
     show_number(b" ", printable(near.hi));
     show_number(b" ", near.edge as u64);
+    let count = job.count;
+    let found = distance::nearest(store, count, x, y);
+    show_number(b") (reads ", found.reads as u64);
     io::write_all(STDOUT_FILENO, b")\n");
 }
 
@@ -38,20 +44,25 @@ fn ask(job: Job, x: i32, y: i32, store: &[i32], n: usize) {
     show_nearest(near, job, x, y, &store[..k]);
 }
 
-// Points in, on and past the range, and on the outline. The last numbers of a line's place are zeros, so there the fifth is the origin again.
+// Points in, on and past the range, and those of the first edge's place. The last numbers of a line's place are zeros, so there two are the origin
+// again.
 fn ask_spots(job: Job, store: &[i32], need: usize) {
     let places = job.places;
     ask(job, 0, 0, store, need);
     ask(job, 3, 4, store, need);
     ask(job, job.x, job.y, store, need);
     ask(job, places[0], places[1], store, need);
+    ask(job, places[2], places[3], store, need);
+    ask(job, places[4], places[5], store, need);
     ask(job, places[6], places[7], store, need);
     ask(job, 1000000, -1000000, store, need);
     ask(job, 1000001, 0, store, need);
     ask(job, 0, -1000001, store, need);
 }
 
-fn one_less(n: usize) -> usize {
+fn one_less(n: usize) -> usize
+    ensures least { λ r. ⌜ r ≤ n ⌝ }
+{
     if n == 0 { 0 } else { n - 1 }
 }
 
@@ -69,29 +80,73 @@ fn ask_changed(job: Job, store: &mut [i32], need: usize, at: usize) {
     }
 }
 
-// Stores of one number more, one less and none, and with the first, the middle and the last one changed.
-fn ask_stores(job: Job, store: &mut [i32], need: usize)
-    requires small { ⌜ need ≤ 28672 ⌝ }
+// The answers with each number of a node changed in turn.
+fn ask_node(job: Job, store: &mut [i32], need: usize, node: usize)
+    requires few { ⌜ node ≤ 4096 ⌝ }
 {
-    let last = one_less(need);
+    let mut i: usize = 0;
+    while i < WIDTH {
+        ask_changed(job, store, need, WIDTH * node + i);
+        i += 1;
+    }
+}
+
+fn move_number(store: &mut [i32], from: usize, to: usize) {
+    if from < store.len() {
+        if to < store.len() {
+            let number = store[from];
+            store[to] = number;
+        }
+    }
+}
+
+// A node's numbers without its box, from their place to that of the same node in a store that has no boxes.
+fn pack_node(store: &mut [i32], node: usize)
+    requires few { ⌜ node ≤ 4096 ⌝ }
+{
+    let mut i: usize = 0;
+    while i < LEAST {
+        move_number(store, WIDTH * node + i, LEAST * node + i);
+        i += 1;
+    }
+}
+
+// The answer where no node has a box. The store is left so.
+fn ask_packed(job: Job, store: &mut [i32], nodes: usize)
+    requires few { ⌜ nodes ≤ 4096 ⌝ }
+{
+    let mut node: usize = 0;
+    while node < nodes {
+        pack_node(store, node);
+        node += 1;
+    }
+    ask(job, 3, 4, store, LEAST * nodes);
+}
+
+// Stores of one number more, one less and none; with each number of the first, the middle and the last node changed; and without boxes.
+fn ask_stores(job: Job, store: &mut [i32], nodes: usize)
+    requires few { ⌜ nodes ≤ 4096 ⌝ }
+{
+    let need = WIDTH * nodes;
     ask(job, 3, 4, store, need + 1);
-    ask(job, 3, 4, store, last);
+    ask(job, 3, 4, store, one_less(need));
     ask(job, 3, 4, store, 0);
-    ask_changed(job, store, need, 0);
-    ask_changed(job, store, need, need / 2);
-    ask_changed(job, store, need, last);
+    ask_node(job, store, need, 0);
+    ask_node(job, store, need, nodes / 2);
+    ask_node(job, store, need, one_less(nodes));
+    ask_packed(job, store, nodes);
 }
 
 // The questions of a job. Trees of up to 4,096 nodes have room, more than the program lends, and one number is there behind them. A map that is
 // refused leaves the store empty.
 fn ask_job(job: Job) {
-    let mut space = [0i32; 28673];
+    let mut space = [0i32; 45057];
     let mut cells = [0u8; 65536];
     let store: &mut [i32] = &mut space;
     let done = clearance::map(job, store, &mut cells);
-    let need = 7 * case_files::least(done.nodes, 4096);
-    ask_spots(job, store, need);
-    ask_stores(job, store, need);
+    let nodes = case_files::least(done.nodes, 4096);
+    ask_spots(job, store, WIDTH * nodes);
+    ask_stores(job, store, nodes);
 }
 
 fn ask_sheet(sheet: &[u8]) {
