@@ -43,6 +43,7 @@ pub mod Figures
 pub mod SheetFigures
 pub mod JobFigures
 pub mod StripFigures
+pub mod BoxFigures
 pub mod PlateFigures
 pub mod EntryFigures
 pub mod CaseFigures

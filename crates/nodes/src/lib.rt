@@ -115,7 +115,7 @@ fn put_span(s: &mut [i32], i: usize, v: Limits)
     s[i + GREATEST] = greatest;
 }
 
-// a node's numbers at the front of s
+// a node's numbers at the front of s, with its box in x and in y
 pub fn put(s: &mut [i32], x: Extent, y: Extent, nodes: usize, h: Limits, v: Limits)
     requires sizes { ⌜ (width ≤ length (now s)) × SideSized (side x) × SideSized (side y) × (nodes < 4096) ⌝ }
     ensures written { λ _. ⌜ now (s .exit) ≡ numbers (stripOf x y) nodes (boxBy h v) (drop width (now (s .entry))) ⌝ }

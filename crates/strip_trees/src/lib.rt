@@ -82,19 +82,19 @@ pub fn build(s: &mut [i32], shape: Shape, d: usize, k: usize, grain: i64) -> usi
     let x = p.x;
     let y = p.y;
     let short = p.short;
+    let own_x = boxes::upright(x);
+    let own_y = boxes::upright(y);
     if short {
-        let h = boxes::upright(x);
-        let v = boxes::upright(y);
-        nodes::put(s, x, y, 1, h, v);
+        nodes::put(s, x, y, 1, own_x, own_y);
         return 1;
     }
     let l = build(&mut s[WIDTH..], shape, d + 1, 2 * k, grain);
     let mid = WIDTH + WIDTH * l;
     let r = build(&mut s[mid..], shape, d + 1, 2 * k + 1, grain);
     let nodes = 1 + l + r;
-    let h = around_halves(s, mid, X);
-    let v = around_halves(s, mid, Y);
-    nodes::put(s, x, y, nodes, h, v);
+    let around_x = around_halves(s, mid, X);
+    let around_y = around_halves(s, mid, Y);
+    nodes::put(s, x, y, nodes, around_x, around_y);
     nodes
 }
 
@@ -153,25 +153,25 @@ fn differs_span(s: &[i32], i: usize, v: Limits) -> bool
     differs(s, i + GREATEST, v.greatest as i64)
 }
 
-fn differs_box(s: &[i32], h: Limits, v: Limits) -> bool
+fn differs_box(s: &[i32], x: Limits, y: Limits) -> bool
     requires space { ⌜ width ≤ length (now s) ⌝ }
-    ensures unless { λ r. ⌜ Unless r (boxIn (now (s .entry)) ≡ boxBy h v) ⌝ }
+    ensures unless { λ r. ⌜ Unless r (boxIn (now (s .entry)) ≡ boxBy x y) ⌝ }
 {
-    if differs_span(s, X, h) {
+    if differs_span(s, X, x) {
         return true;
     }
-    differs_span(s, Y, v)
+    differs_span(s, Y, y)
 }
 
 // is the first node's count or box other than these
-fn differs_below(s: &[i32], nodes: usize, h: Limits, v: Limits) -> bool
+fn differs_below(s: &[i32], nodes: usize, x: Limits, y: Limits) -> bool
     requires sizes { ⌜ (width ≤ length (now s)) × (nodes < 4096) ⌝ }
-    ensures unless { λ r. ⌜ Unless r ((getD (now (s .entry)) countPlace (pos 0) ≡ pos nodes) × (boxIn (now (s .entry)) ≡ boxBy h v)) ⌝ }
+    ensures unless { λ r. ⌜ Unless r ((getD (now (s .entry)) countPlace (pos 0) ≡ pos nodes) × (boxIn (now (s .entry)) ≡ boxBy x y)) ⌝ }
 {
     if differs_count(s, nodes) {
         return true;
     }
-    differs_box(s, h, v)
+    differs_box(s, x, y)
 }
 
 // the nodes of the piece's subtree if s begins with it, and 0 otherwise
@@ -188,9 +188,9 @@ pub fn begins_with(s: &[i32], shape: Shape, d: usize, k: usize, grain: i64) -> u
         return 0;
     }
     if short {
-        let h = boxes::upright(x);
-        let v = boxes::upright(y);
-        if differs_below(s, 1, h, v) {
+        let own_x = boxes::upright(x);
+        let own_y = boxes::upright(y);
+        if differs_below(s, 1, own_x, own_y) {
             return 0;
         }
         return 1;
@@ -205,9 +205,9 @@ pub fn begins_with(s: &[i32], shape: Shape, d: usize, k: usize, grain: i64) -> u
         return 0;
     }
     let nodes = 1 + l + r;
-    let h = around_halves(s, mid, X);
-    let v = around_halves(s, mid, Y);
-    if differs_below(s, nodes, h, v) {
+    let around_x = around_halves(s, mid, X);
+    let around_y = around_halves(s, mid, Y);
+    if differs_below(s, nodes, around_x, around_y) {
         return 0;
     }
     nodes

@@ -58,27 +58,27 @@ short-is t c = rw (toZ-ofZ (c .before .fits .grain)) at (c .piece-of .ensures .1
 strip-is : (t : ℕ) (c : build-lts.After-piece-of (callees t) (build-at t) build.Post) → let s = c .before in stripOf (c .piece-of .result .x) (c .piece-of .result .y) ≡ stripsOf (s .args .shape) (s .args .d) (s .args .k)
 strip-is t c = c .piece-of .ensures .0
 
-fork-at : (t : ℕ) (c : build-lts.Else1 (callees t) (build-at t) build.Post) → let s = c .before .before .before .before in Forked (s .args .grain) (stripsOf (s .args .shape)) (s .args .d) (s .args .k)
+fork-at : (t : ℕ) (c : build-lts.Else1 (callees t) (build-at t) build.Post) → let s = c .before .before .before .before .before .before in Forked (s .args .grain) (stripsOf (s .args .shape)) (s .args .d) (s .args .k)
 fork-at t c =
-    let a = c .before .before .before in
+    let a = c .before .before .before .before .before in
     let s = a .before in
     forked (s .args .grain) (stripsOf (s .args .shape)) (s .args .d) (s .args .k) (sym (short-is t a) ∙ c .if1 .left) (s .pre .1 .1 .piece .depth) (s .pre .1 .1 .short)
 
 -- the room that is left
-room : (t : ℕ) (c : build-lts.Else1 (callees t) (build-at t) build.Post) → width + width * size (left-of t (c .before .before .before .before)) + width * size (right-of t (c .before .before .before .before)) ≤ length (c .before .before .before .before .args .s .now)
-room t c = omega (arith, ap size (fork-at t c .is), c .before .before .before .before .pre .1 .1 .fits)
+room : (t : ℕ) (c : build-lts.Else1 (callees t) (build-at t) build.Post) → let s = c .before .before .before .before .before .before in width + width * size (left-of t s) + width * size (right-of t s) ≤ length (s .args .s .now)
+room t c = omega (arith, ap size (fork-at t c .is), c .before .before .before .before .before .before .pre .1 .1 .fits)
 
-left-is : (t : ℕ) (c : build-lts.After-build (callees t) (build-at t) build.Post) → c .build .result ≡ size (left-of t (c .before .before .before .before .before .before))
-left-is t c = let s = c .before .before .before .before .before .before in (rw (toZ-ofZ (s .fits .grain)) at (c .build .ensures)) .0
+left-is : (t : ℕ) (c : build-lts.After-build (callees t) (build-at t) build.Post) → c .build .result ≡ size (left-of t (c .before .before .before .before .before .before .before .before))
+left-is t c = let s = c .before .before .before .before .before .before .before .before in (rw (toZ-ofZ (s .fits .grain)) at (c .build .ensures)) .0
 
-right-is : (t : ℕ) (c : build-lts.After-build2 (callees t) (build-at t) build.Post) → c .build2 .result ≡ size (right-of t (c .before .before .before .before .before .before .before .before .before))
-right-is t c = let s = c .before .before .before .before .before .before .before .before .before in same-built (s .args .grain) (stripsOf (s .args .shape)) (s .args .d + 1) (2 * s .args .k + 1) _ _ _ _ _ (rw (toZ-ofZ (s .fits .grain)) at (c .build2 .ensures)) (omega arith) (omega arith) .0
+right-is : (t : ℕ) (c : build-lts.After-build2 (callees t) (build-at t) build.Post) → c .build2 .result ≡ size (right-of t (c .before .before .before .before .before .before .before .before .before .before .before))
+right-is t c = let s = c .before .before .before .before .before .before .before .before .before .before .before in same-built (s .args .grain) (stripsOf (s .args .shape)) (s .args .d + 1) (2 * s .args .k + 1) _ _ _ _ _ (rw (toZ-ofZ (s .fits .grain)) at (c .build2 .ensures)) (omega arith) (omega arith) .0
 
 few-at : (t : ℕ) (c : build-lts.After-s3 (callees t) (build-at t) build.Post) → 1 + c .before .before .before .before .build .result + c .before .build2 .result < 4096
 few-at t c =
     let b = c .before .before .before .before in
     let e = b .before .before in
-    let s = e .before .before .before .before in
+    let s = e .before .before .before .before .before .before in
     omega (
       arith,
       left-is t b,
@@ -91,10 +91,10 @@ build-piece-of-requires : (t : ℕ) → build-lts.Need-piece-of-requires (callee
 build-piece-of-requires t c κs = let p = c .pre .1 in (p .0 .0, p .1 .piece, rw (toZ-ofZ (c .fits .grain)) (p .0 .1))
 
 build-upright-requires : (t : ℕ) → build-lts.Need-upright-requires (callees t) (build-at t) build.Post
-build-upright-requires t c κs = c .before .before .before .piece-of .ensures .1 .0 .x-sized
+build-upright-requires t c κs = c .before .before .piece-of .ensures .1 .0 .x-sized
 
 build-upright-requires-2 : (t : ℕ) → build-lts.Need-upright-requires-2 (callees t) (build-at t) build.Post
-build-upright-requires-2 t c κs = c .before .before .before .before .piece-of .ensures .1 .0 .y-sized
+build-upright-requires-2 t c κs = c .before .before .before .piece-of .ensures .1 .0 .y-sized
 
 build-put-requires : (t : ℕ) → build-lts.Need-put-requires (callees t) (build-at t) build.Post
 build-put-requires t c κs =
@@ -107,10 +107,11 @@ build-same-length t c = search needs
 
 build-returns : (t : ℕ) → build-lts.Need-returns (callees t) (build-at t) build.Post
 build-returns t c =
-    let u = c .before .before .before in
-    let a = u .before .before .before .before .before in
+    let i = c .before .before .before in
+    let u = i .before in
+    let a = u .before .before .before .before in
     let s = a .before in
-    let e = sym (short-is t a) ∙ u .before .before .if1 .taken in
+    let e = sym (short-is t a) ∙ i .if1 .taken in
     rw (at-short (s .args .grain) (stripsOf (s .args .shape)) (s .args .d) (s .args .k) e)
     (refl, c .before .put .ensures ∙ put-eq 1 (drop width (s .args .s .now)) (strip-is t a) (box-eq (u .before .upright .ensures) (u .upright2 .ensures) ∙ ap upright (strip-is t a)))
 
@@ -124,15 +125,15 @@ build-part-build-end : (t : ℕ) → build-lts.Need-part-build-end (callees t) (
 build-part-build-end t c = omega arith
 
 build-add-build : (t : ℕ) → build-lts.Need-add-build (callees t) (build-at t) build.Post
-build-add-build t c = omega (arith, c .before .before .before .before .before .pre .1 .1 .piece .depth)
+build-add-build t c = omega (arith, c .before .before .before .before .before .before .before .pre .1 .1 .piece .depth)
 
 build-mul-build : (t : ℕ) → build-lts.Need-mul-build (callees t) (build-at t) build.Post
-build-mul-build t c = omega (arith, place-most (c .before .before .before .before .before .pre .1 .1 .piece))
+build-mul-build t c = omega (arith, place-most (c .before .before .before .before .before .before .before .pre .1 .1 .piece))
 
 build-build-requires : (t : ℕ) → build-lts.Need-build-requires (callees t) (build-at t) build.Post
 build-build-requires t c κs =
     let e = c .before in
-    let s = e .before .before .before .before in
+    let s = e .before .before .before .before .before .before in
     let p = s .pre .1 in
     let f = fork-at t e in
     rw (toZ-ofZ (s .fits .grain))
@@ -157,19 +158,19 @@ build-part-build-end-2 : (t : ℕ) → build-lts.Need-part-build-end-2 (callees 
 build-part-build-end-2 t c = omega arith
 
 build-add-build-2 : (t : ℕ) → build-lts.Need-add-build-2 (callees t) (build-at t) build.Post
-build-add-build-2 t c = omega (arith, c .before .before .before .before .before .before .before .before .pre .1 .1 .piece .depth)
+build-add-build-2 t c = omega (arith, c .before .before .before .before .before .before .before .before .before .before .pre .1 .1 .piece .depth)
 
 build-mul-build-3 : (t : ℕ) → build-lts.Need-mul-build-3 (callees t) (build-at t) build.Post
-build-mul-build-3 t c = omega (arith, place-most (c .before .before .before .before .before .before .before .before .pre .1 .1 .piece))
+build-mul-build-3 t c = omega (arith, place-most (c .before .before .before .before .before .before .before .before .before .before .pre .1 .1 .piece))
 
 build-add-build-3 : (t : ℕ) → build-lts.Need-add-build-3 (callees t) (build-at t) build.Post
-build-add-build-3 t c = omega (arith, place-most (c .before .before .before .before .before .before .before .before .pre .1 .1 .piece))
+build-add-build-3 t c = omega (arith, place-most (c .before .before .before .before .before .before .before .before .before .before .pre .1 .1 .piece))
 
 build-build-requires-2 : (t : ℕ) → build-lts.Need-build-requires-2 (callees t) (build-at t) build.Post
 build-build-requires-2 t c κs =
     let b = c .before .before in
     let e = b .before .before in
-    let s = e .before .before .before .before in
+    let s = e .before .before .before .before .before .before in
     let p = s .pre .1 in
     let f = fork-at t e in
     rw (toZ-ofZ (s .fits .grain))
@@ -187,7 +188,7 @@ module _ (t : ℕ) (q : build-lts.After-s3 (callees t) (build-at t) build.Post) 
   first-call = q .before .before .before .before
 
   abbrev start : build-lts.Start (callees t) (build-at t) build.Post
-  start = first-call .before .before .before .before .before .before
+  start = first-call .before .before .before .before .before .before .before .before
 
   abbrev l : Tree
   l = left-of t start
@@ -230,7 +231,7 @@ build-around-halves-requires-2 t c κs =
 build-put-requires-2 : (t : ℕ) → build-lts.Need-put-requires-2 (callees t) (build-at t) build.Post
 build-put-requires-2 t c κs =
     let q = c .before .before .before .before .before in
-    let a = first-call t q .before .before .before .before .before in
+    let a = first-call t q .before .before .before .before .before .before .before in
     (omega (arith, fits t q), a .piece-of .ensures .1 .0 .x-sized, a .piece-of .ensures .1 .0 .y-sized, few-at t q)
 
 build-same-length-2 : (t : ℕ) → build-lts.Need-same-length-2 (callees t) (build-at t) build.Post
@@ -244,7 +245,7 @@ build-returns-2 t c =
     let s = start t q in
     let b = around-eq (stored t q) (l t q) (r t q) (width + width * first-call t q .build .result) (halves-stored t q) (mid-is t q) (h .before .before .around-halves .ensures) (h .around-halves2 .ensures) in
     rw (fork-at t e .is)
-    (count-is t q, c .before .put2 .ensures ∙ rw (count-is t q, behind t q) (put-eq (suc (size (l t q) + size (r t q))) ((flatten (l t q) ++ flatten (r t q)) ++ drop (width * suc (size (l t q) + size (r t q))) (s .args .s .now)) (strip-is t (e .before .before .before)) b))
+    (count-is t q, c .before .put2 .ensures ∙ rw (count-is t q, behind t q) (put-eq (suc (size (l t q) + size (r t q))) ((flatten (l t q) ++ flatten (r t q)) ++ drop (width * suc (size (l t q) + size (r t q))) (s .args .s .now)) (strip-is t (e .before .before .before .before .before)) b))
 
 pub +build-spec : {M : Type 1} → statement M
 +build-spec = close μ-build λ t. build-lts.spec (callees t)

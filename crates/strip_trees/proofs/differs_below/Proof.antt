@@ -23,7 +23,7 @@ returns-2 c =
     let s = c .before .before .before in
     let l = s .args .s .now in
     let e = unless-false (c .before .before .differs-count .result) (getD l countPlace (pos 0) ≡ pos (s .args .nodes)) (c .before .before .differs-count .ensures) (c .before .if1 .left) in
-    unless-last (c .differs-box .result) (boxIn l ≡ boxBy (s .args .h) (s .args .v)) ((getD l countPlace (pos 0) ≡ pos (s .args .nodes)) × (boxIn l ≡ boxBy (s .args .h) (s .args .v))) (λ g. (e, g)) (λ h. h .1) (c .differs-box .ensures)
+    unless-last (c .differs-box .result) (boxIn l ≡ boxBy (s .args .x) (s .args .y)) ((getD l countPlace (pos 0) ≡ pos (s .args .nodes)) × (boxIn l ≡ boxBy (s .args .x) (s .args .y))) (λ g. (e, g)) (λ h. h .1) (c .differs-box .ensures)
 
 pub differs-below-spec : {M : Type 1} → statement M
 differs-below-spec =
