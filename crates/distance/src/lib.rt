@@ -95,13 +95,12 @@ pub fn nearest(store: &[i32], count: usize, x: i32, y: i32) -> Found
     requires held { ⌜ TreesOf (now store) count × (0 < count) × (count ≤ 64) × (natAbs x ≤ 1000000) × (natAbs y ≤ 1000000) ⌝ }
     ensures found { λ r. ⌜ ((ts : List Tree) → Holds (now (store .entry)) count ts → state r ≡ lookup ts x y) ⌝ }
 {
-    let nothing = Found {
+    let mut found = Found {
         lo: NONE,
         hi: NONE,
         edge: 0,
         reads: 0,
     };
-    let mut found = nothing;
     let mut at: usize = 0;
     let mut edge: usize = 0;
     while edge < count {

@@ -147,10 +147,12 @@ fn differs_span(s: &[i32], i: usize, v: Limits) -> bool
     requires within { ⌜ (i < 2) × (width ≤ length (now s)) ⌝ }
     ensures unless { λ r. ⌜ Unless r (spanIn (now (s .entry)) i ≡ span v) ⌝ }
 {
-    if differs(s, i + LEAST, v.least as i64) {
+    let least = v.least as i64;
+    let greatest = v.greatest as i64;
+    if differs(s, i + LEAST, least) {
         return true;
     }
-    differs(s, i + GREATEST, v.greatest as i64)
+    differs(s, i + GREATEST, greatest)
 }
 
 fn differs_box(s: &[i32], x: Limits, y: Limits) -> bool

@@ -67,13 +67,13 @@ returns c =
     let e = d .before .before .limits-at .ensures in
     let g = c .before .before .greater-of in
     let n =
-        read32 (c .before .at-least-0 .result) (c .before .at-least-0 .ok) ∙ c .before .at-least-0 .ensures
-        ∙ ap atLeast0 (read32 (g .result) (g .ok) ∙ g .ensures ∙ ap₂ greater (difference (box d .least) (point d) (below d)) (difference (point d) (box d .greatest) (omega (arith, above d))))
-        ∙ ap (near (point d)) e in
+    read32 (c .before .at-least-0 .result) (c .before .at-least-0 .ok) ∙ c .before .at-least-0 .ensures
+    ∙ ap atLeast0 (read32 (g .result) (g .ok) ∙ g .ensures ∙ ap₂ greater (difference (box d .least) (point d) (below d)) (difference (point d) (box d .greatest) (omega (arith, above d))))
+    ∙ ap (near (point d)) e in
     let f =
-        read32 (c .greater-of2 .result) (c .greater-of2 .ok) ∙ c .greater-of2 .ensures
-        ∙ ap₂ greater (difference (point d) (box d .least) (omega (arith, below d))) (difference (box d .greatest) (point d) (above d))
-        ∙ ap (far (point d)) e in
+    read32 (c .greater-of2 .result) (c .greater-of2 .ok) ∙ c .greater-of2 .ensures
+    ∙ ap₂ greater (difference (point d) (box d .least) (omega (arith, below d))) (difference (box d .greatest) (point d) (above d))
+    ∙ ap (far (point d)) e in
     record {
       near-is = n;
       far-is = f;

@@ -1,6 +1,7 @@
 -- The least answers where it differs, and otherwise the greatest for both. Assumes nothing.
 use mathlib.Core.Path.{_≡_, sym, ap, _∙_}
 use mathlib.Core.Bool.{Bool}
+use mathlib.Core.List.{List}
 use Prim.Native.Nat.{_+_, _<_, _^_}
 use lib.IntN.{ℤ, pos}
 use lib.ListN.{getD}
@@ -30,49 +31,60 @@ module _ (v : ℤ) (h : mag v < 2 ^ 31) where
   plain : (b : Bool) (a : ℤ) → Unless b (a ≡ toZ w64 (ofZ w64 (toZ w32 (ofZ w32 v)))) → Unless b (a ≡ v)
   plain b a u = unless-last b (a ≡ toZ w64 (ofZ w64 (toZ w32 (ofZ w32 v)))) (a ≡ v) (λ e. e ∙ wide) (λ e. e ∙ sym wide) u
 
-first : (c : tie.After-differs) → let s = c .before .before .before in Unless (c .differs .result) (getD (s .args .s .now) (s .args .i + leastPlace) (pos 0) ≡ s .args .v .least)
-first c = let s = c .before .before .before in plain (s .args .v .least) (c .before .struct-told .given .0 .1) (c .differs .result) (getD (s .args .s .now) (s .args .i + leastPlace) (pos 0)) (c .differs .ensures)
+-- both comparisons, with the numbers as they were widened
+module _ (c : tie.After-differs) where
+  abbrev start : tie.Start
+  start = c .before .before .before .before .before
+
+  abbrev list : List ℤ
+  list = start .args .s .now
+
+  first : Unless (c .differs .result) (getD list (start .args .i + leastPlace) (pos 0) ≡ start .args .v .least)
+  first = plain (start .args .v .least) (c .before .before .before .struct-told .given .0 .1) (c .differs .result) (getD list (start .args .i + leastPlace) (pos 0)) (c .differs .ensures)
+
+second : (c : tie.After-differs2) → let d = c .before .before in Unless (c .differs2 .result) (getD (list d) (start d .args .i + greatestPlace) (pos 0) ≡ start d .args .v .greatest)
+second c = let d = c .before .before in plain (start d .args .v .greatest) (d .before .struct-told2 .given .1 .0 .1) (c .differs2 .result) (getD (list d) (start d .args .i + greatestPlace) (pos 0)) (c .differs2 .ensures)
+
+cast-least : tie.Need-cast-least
+cast-least c = wide-fits (c .before .before .args .v .least) (c .struct-told .given .0 .1)
+
+cast-greatest : tie.Need-cast-greatest
+cast-greatest c = wide-fits (c .before .before .before .before .args .v .greatest) (c .struct-told2 .given .1 .0 .1)
 
 add-differs : tie.Need-add-differs
 add-differs c = search needs
-
-cast-differs : tie.Need-cast-differs
-cast-differs c = wide-fits (c .before .before .args .v .least) (c .struct-told .given .0 .1)
 
 differs-requires : tie.Need-differs-requires
 differs-requires c κs = search needs
 
 returns : tie.Need-returns
-returns c = λ h. let s = c .before .before .before .before in unless-true (c .before .differs .result) (getD (s .args .s .now) (s .args .i + leastPlace) (pos 0) ≡ s .args .v .least) (first (c .before)) (c .if1 .taken) (ap (λ (z : Span). z .least) h)
+returns c = λ h.
+    let d = c .before in
+    let s = start d in
+    unless-true (d .differs .result) (getD (list d) (s .args .i + leastPlace) (pos 0) ≡ s .args .v .least) (first d) (c .if1 .taken) (ap (λ (z : Span). z .least) h)
 
 add-differs-2 : tie.Need-add-differs-2
 add-differs-2 c = search needs
-
-cast-differs-2 : tie.Need-cast-differs-2
-cast-differs-2 c = wide-fits (c .before .before .before .before .before .before .args .v .greatest) (c .struct-told2 .given .1 .0 .1)
 
 differs-requires-2 : tie.Need-differs-requires-2
 differs-requires-2 c κs = search needs
 
 returns-2 : tie.Need-returns-2
 returns-2 c =
-    let d = c .before .before .before .before in
-    let s = d .before .before .before in
-    let l = s .args .s .now in
-    let v = s .args .v in
-    let e = unless-false (d .differs .result) (getD l (s .args .i + leastPlace) (pos 0) ≡ v .least) (first d) (c .before .before .before .if1 .left) in
-    unless-last (c .differs2 .result) (getD l (s .args .i + greatestPlace) (pos 0) ≡ v .greatest) (spanIn l (s .args .i) ≡ span v) (λ g. span-eq e g) (λ h. ap (λ (z : Span). z .greatest) h)
-    (plain (v .greatest) (c .before .struct-told2 .given .1 .0 .1) (c .differs2 .result) (getD l (s .args .i + greatestPlace) (pos 0)) (c .differs2 .ensures))
+    let d = c .before .before in
+    let s = start d in
+    let e = unless-false (d .differs .result) (getD (list d) (s .args .i + leastPlace) (pos 0) ≡ s .args .v .least) (first d) (c .before .if1 .left) in
+    unless-last (c .differs2 .result) (getD (list d) (s .args .i + greatestPlace) (pos 0) ≡ s .args .v .greatest) (spanIn (list d) (s .args .i) ≡ span (s .args .v)) (λ g. span-eq e g) (λ h. ap (λ (z : Span). z .greatest) h) (second c)
 
 pub differs-span-spec : {M : Type 1} → statement M
 differs-span-spec =
     tie.close
     (tie.spec
+    cast-least
+    cast-greatest
     add-differs
-    cast-differs
     differs-requires
     returns
     add-differs-2
-    cast-differs-2
     differs-requires-2
     returns-2)
