@@ -1,9 +1,8 @@
 -- A point's differences from a sized box fit 32 bits, and so do its ranges; what was made in 32 bits is the same in 64. Assumes nothing.
-use mathlib.Core.Path.{_≡_, refl, ap, ap₂, _∙_}
-use Prim.Native.Nat.{ℕ, _+_, _≤_, _^_}
+use mathlib.Core.Path.{_≡_, ap₂, _∙_}
+use Prim.Native.Nat.{ℕ, _+_, _≤_}
 use native.Mathlib.Nat.{le-trans}
 use native.Mathlib.Omega.{arith}
-use lib.Dec.{T, ltb}
 use lib.IntN.{ℤ, natAbs, negℤ, _-ℤ_}
 use lib.Signed.{ltZ}
 use mir.Syntax.{w32, w64}
@@ -12,7 +11,7 @@ use mir.Facts.{toZ-ofZ}
 use Rattle.integers.specs.Signed.{natAbs-neg, natAbs-add, fits32, fits64}
 use Rattle.model.specs.Boxes.{Span, greater}
 use Rattle.model.specs.Distance.{near, far}
-use Rattle.ranges.specs.Sizes.{spanMost, SpanSized}
+use Rattle.ranges.specs.Sizes.{SpanSized}
 use Rattle.ranges.specs.Boxes.{one-of}
 use Rattle.boxes.proofs.Clamps.{clamp-size}
 

@@ -1,19 +1,17 @@
 -- A lookup over the trees of several edges, one after the other: its bounds are those over all leaves, and its edge is the first that attains the upper one. Assumes nothing.
 use mathlib.Core.Path.{_≡_, refl, sym, ap, _∙_, subst}
-use mathlib.Core.Bool.{Bool, true, false, cond}
-use mathlib.Core.List.{List, [], _∷_, _++_, append-nil}
+use mathlib.Core.Bool.{Bool, cond}
+use mathlib.Core.List.{List, [], _∷_, append-nil}
 use mathlib.Core.Logic.{⊎-elim}
 use Prim.Native.Nat.{ℕ, zero, suc, _+_, _≤_, _<_}
 use native.Mathlib.Omega.{arith}
 use lib.IntN.{ℤ, pos, natAbs, _*ℤ_}
 use lib.ListN.{length}
-use lib.Signed.{ltZ, clashℤ}
+use lib.Signed.{clashℤ}
 use Rattle.integers.specs.Order.{_≼_, _≺_, ≼-refl}
-use Rattle.integers.specs.Inequalities.{≼-trans, ≺-≼-trans, ≼-≺-trans, weak}
+use Rattle.integers.specs.Inequalities.{≼-trans, ≼-≺-trans, weak}
 use Rattle.integers.specs.Signed.{natAbs-mul}
 use Rattle.integers.specs.Tests.{true-lt}
-use Rattle.model.specs.declared.Job.{Job}
-use Rattle.model.specs.Jobs.{coordinate, judge}
 use Rattle.model.specs.Strips.{Strip}
 use Rattle.model.specs.Trees.{Tree}
 use Rattle.model.specs.Boxes.{lesser}

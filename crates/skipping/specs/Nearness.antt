@@ -1,13 +1,12 @@
 -- How near a point is to upright boxes: of a strip's it is what the bounds of a point take of the strip, of a tree's it is no more than that of any of its leaves, and no leaf is
 -- nearer than far. Assumes nothing.
-use mathlib.Core.Path.{_≡_, refl, sym, ap, ap₂, _∙_, subst}
+use mathlib.Core.Path.{_≡_, refl, sym, ap, ap₂, subst}
 use mathlib.Core.Logic.{_⊎_, inl, inr, ⊎-elim}
-use mathlib.Core.List.{List, _++_}
-use Prim.Native.Nat.{ℕ, _≤_, _^_}
+use Prim.Native.Nat.{_≤_}
 use native.Mathlib.Omega.{arith}
 use lib.Dec.{lit<}
-use lib.IntN.{ℤ, pos, natAbs, negℤ, _+ℤ_, _-ℤ_, _*ℤ_}
-use Rattle.integers.specs.RingSolver.{name₁, name₂, name₃, name₄, name₅, reify, close, ok}
+use lib.IntN.{ℤ, pos, natAbs, negℤ, _+ℤ_, _-ℤ_}
+use Rattle.integers.specs.RingSolver.{name₃, name₅, reify}
 use Rattle.integers.specs.Order.{_≼_, _≺_, ≼-refl, pos-≼, pos-≺}
 use Rattle.integers.specs.Omega.{zarith}
 use Rattle.integers.specs.Inequalities.{≼-trans, ≼-≺-trans, ≼-+, ≼-*}

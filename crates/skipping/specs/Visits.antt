@@ -1,17 +1,17 @@
 -- What a visit of a tree makes of the state: the bounds become the lesser of the state's and of the tree's leaves', and the edge is named where hi falls. So the nodes that it
 -- skips change nothing. Assumes nothing.
-use mathlib.Core.Path.{_≡_, refl, sym, ap, ap₂, _∙_, subst}
+use mathlib.Core.Path.{_≡_, refl, sym, ap, ap₂, _∙_}
 use mathlib.Core.Bool.{Bool, true, false, cond}
 use mathlib.Core.List.{[], _∷_}
 use Prim.Native.Nat.{ℕ}
 use lib.IntN.{ℤ, pos}
-use lib.Signed.{leZ, ltZ}
+use lib.Signed.{ltZ}
 use Rattle.integers.specs.Order.{_≼_}
 use Rattle.integers.specs.Inequalities.{≼-trans}
 use Rattle.integers.specs.Tests.{le-true}
 use Rattle.model.specs.Strips.{Strip}
 use Rattle.model.specs.Trees.{Tree, leaf, long, node}
-use Rattle.model.specs.Boxes.{upright, around, boxOf, lesser}
+use Rattle.model.specs.Boxes.{upright, boxOf, lesser}
 use Rattle.model.specs.Explore.{Cell, farthest², closest²}
 use Rattle.model.specs.Distance.{leaves, least, near², far²}
 use Rattle.model.specs.Lookup.{State, looked, skipped, taken, visit}

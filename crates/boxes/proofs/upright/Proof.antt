@@ -1,6 +1,6 @@
 -- Each number is within its size, so nothing wraps and both fit 32 bits. Assumes nothing.
 use mathlib.Core.Path.{_≡_, ap, _∙_}
-use lib.IntN.{ℤ, _+ℤ_, _-ℤ_}
+use lib.IntN.{ℤ, _+ℤ_}
 use mir.Syntax.{w32, w64}
 use mir.Val.{SFits, toZ, ofZ}
 use mir.Facts.{toZ-ofZ}

@@ -2,7 +2,7 @@
 use mathlib.Core.Path.{_≡_, refl, sym, ap, ap₂, _∙_}
 use mathlib.Core.Bool.{Bool}
 use mathlib.Core.List.{List}
-use Prim.Native.Nat.{ℕ, suc, _+_, _*_, _-_, _≤_, _<_}
+use Prim.Native.Nat.{ℕ, _+_, _*_, _-_, _≤_, _<_}
 use native.Mathlib.Numerals.{add-one}
 use native.Mathlib.Omega.{arith}
 use lib.Dec.{T}
@@ -18,7 +18,7 @@ use Rattle.model.specs.Boxes.{Box}
 use Rattle.model.specs.Explore.{Cell}
 use Rattle.model.specs.Distance.{near², far²}
 use Rattle.model.specs.Store.{width, flatten}
-use Rattle.model.specs.Lookup.{State, looked, skipped, taken, visit}
+use Rattle.model.specs.Lookup.{State, looked, skipped, taken}
 use Rattle.ranges.specs.Sizes.{AllSized}
 use Rattle.nodes.specs.Places.{countPlace, boxIn}
 use Rattle.subtrees.specs.Preorder.{tail}

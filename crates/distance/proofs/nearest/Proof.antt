@@ -1,20 +1,18 @@
 -- The trees are looked through one after the other, and each turn is a law of `Edges`. A coordinate in fine units is 16 times itself. Assumes nothing.
-use mathlib.Core.Path.{_≡_, refl, sym, ap, _∙_, subst}
+use mathlib.Core.Path.{_≡_, ap}
 use mathlib.Core.List.{List}
-use Prim.Native.Nat.{ℕ, _+_, _*_, _-_, _≤_, _<_, _^_}
+use Prim.Native.Nat.{ℕ, _+_, _*_, _-_, _≤_}
 use native.Mathlib.Omega.{arith}
 use lib.IntN.{ℤ, pos, natAbs, _*ℤ_}
-use lib.ListN.{length, getD, take, drop}
+use lib.ListN.{length}
 use mir.Syntax.{w32}
 use mir.Val.{SFits, toZ, ofZ}
 use mir.Facts.{toZ-ofZ}
 use Rattle.integers.specs.Signed.{fits32, natAbs-mul}
 use Rattle.model.specs.Trees.{Tree}
 use Rattle.model.specs.Explore.{Cell}
-use Rattle.model.specs.Store.{width, size, flatten}
-use Rattle.model.specs.Lookup.{State, start, visit, lookup}
-use Rattle.nodes.specs.Places.{countPlace}
-use Rattle.subtrees.specs.Preorder.{size-pos, length-flatten}
+use Rattle.model.specs.Store.{width}
+use Rattle.subtrees.specs.Preorder.{length-flatten}
 use Rattle.subtrees.specs.Fronts.{Holds}
 use Rattle.subtrees.specs.At.{At, front, Here, here}
 use Rattle.boxes.specs.Ranges.{pointAt}

@@ -1,5 +1,5 @@
 -- Both boxes are read where the halves begin. Assumes nothing.
-use mathlib.Core.Path.{_≡_, ap, ap₂, _∙_}
+use mathlib.Core.Path.{ap, ap₂, _∙_}
 use mathlib.Core.List.{List}
 use lib.IntN.{ℤ}
 use Rattle.model.specs.Boxes.{spanning}
