@@ -15,7 +15,7 @@ use Rattle.ranges.specs.Sizes.{SideSized, Sized, AllSized, SpanSized, Bo
 reach-sized : (s : Side) → SideSized s → natAbs (absℤ (s .axis) +ℤ s .box) ≤ 671088640
 reach-sized s h = omega (arith, natAbs-add (absℤ (s .axis)) (s .box), abs-size (s .axis), h .axis-size, h .box-size)
 
-pub span-sized : (s : Side) → SideSized s → SpanSized (spanOf s)
+span-sized : (s : Side) → SideSized s → SpanSized (spanOf s)
 span-sized s h =
     let r = absℤ (s .axis) +ℤ s .box in
     record {

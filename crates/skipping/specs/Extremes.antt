@@ -19,7 +19,7 @@ false-lt {a} {b} h = go (ltZ a b) refl
     go true e = clashℤ (lt-true {a = a} {b = b} e) h
     go false e = refl
 
-pub antisym : {a b : ℤ} → a ≼ b → b ≼ a → a ≡ b
+antisym : {a b : ℤ} → a ≼ b → b ≼ a → a ≡ b
 antisym {a} {b} = name₂ a b λ σ p q. simp (p, q) (omega zarith)
 
 -- ---- which one it is
@@ -33,10 +33,10 @@ lesser-second {a} {b} h = go (ltZ b a) refl
     go true e = refl
     go false e = antisym (lt-false {a = b} {b = a} e) h
 
-pub greater-first : {a b : ℤ} → b ≼ a → greater a b ≡ a
+greater-first : {a b : ℤ} → b ≼ a → greater a b ≡ a
 greater-first {a} {b} h = ap (λ (t : Bool). cond t b a) (false-lt h)
 
-pub greater-second : {a b : ℤ} → a ≼ b → greater a b ≡ b
+greater-second : {a b : ℤ} → a ≼ b → greater a b ≡ b
 greater-second {a} {b} h = go (ltZ a b) refl
   where
     go : (t : Bool) → ltZ a b ≡ t → cond t b a ≡ b
@@ -83,7 +83,7 @@ pub ≺-lesser : {a b z : ℤ} → z ≺ a → z ≺ b → z ≺ lesser a b
     (λ d. subst (λ (w : ℤ). z ≺ w) (sym (lesser-first d)) h)
     (either-way a b)
 
-pub greater-≼ : {a b z : ℤ} → a ≼ z → b ≼ z → greater a b ≼ z
+greater-≼ : {a b z : ℤ} → a ≼ z → b ≼ z → greater a b ≼ z
 greater-≼ {a} {b} {z} h k = ⊎-elim
     (λ d. subst (λ (w : ℤ). w ≼ z) (sym (greater-first (weak d))) h)
     (λ d. subst (λ (w : ℤ). w ≼ z) (sym (greater-second d)) k)

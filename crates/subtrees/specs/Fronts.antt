@@ -12,7 +12,7 @@ use Rattle.model.specs.Trees.{Tree}
 use Rattle.model.specs.Store.{width, size, flatten}
 use Rattle.ranges.specs.Sizes.{EachSized}
 use Rattle.nodes.specs.Places.{countPlace}
-use Rattle.subtrees.specs.Preorder.{size-pos, length-flatten, Begins, BeginsAll, begins-count}
+use Rattle.subtrees.specs.Preorder.{length-flatten, Begins, BeginsAll, begins-count}
 
 -- ---- the list begins with the k trees ts, and with some k trees
 pub record Holds (l : List ℤ) (k : ℕ) (ts : List Tree) : Type 0 where
@@ -27,9 +27,6 @@ pub record TreesOf (l : List ℤ) (k : ℕ) : Type 0 where
 -- ---- the first tree: its numbers, its count, its part
 pub room : (t : Tree) (l : List ℤ) → Begins t l → width * size t ≤ length l
 room t l b = omega (arith, ap length b, length-append (flatten t) (drop (width * size t) l), length-flatten t)
-
-pub front : (t : Tree) (l : List ℤ) → Begins t l → width ≤ length l
-front t l b = omega (arith, room t l b, size-pos t)
 
 pub counted : (t : Tree) (l : List ℤ) → Begins t l → T (nonNeg (getD l countPlace (pos 0)))
 counted t l b = rw (begins-count t l b) tt

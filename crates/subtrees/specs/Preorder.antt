@@ -50,7 +50,7 @@ all-begun l r ts e =
     e ∙ ap (λ (z : List ℤ). flattenAll ts ++ z) (sym (ap (λ (z : List ℤ). drop (width * sizes ts) z) e ∙ drop-at (flattenAll ts) r (width * sizes ts) (length-all ts)))
 
 -- ---- the first node, by the places of its numbers. Its count is the tree's, whatever follows
-pub count-first : (t : Tree) (rest : List ℤ) → getD (flatten t ++ rest) countPlace (pos 0) ≡ pos (size t)
+count-first : (t : Tree) (rest : List ℤ) → getD (flatten t ++ rest) countPlace (pos 0) ≡ pos (size t)
 count-first (leaf s) rest = refl
 count-first (long s) rest = refl
 count-first (node s l r) rest = refl
