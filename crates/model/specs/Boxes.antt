@@ -22,7 +22,7 @@ spanOf s = record { least = s .centre -ℤ (absℤ (s .axis) +ℤ s .box); great
 abbrev pub upright : Strip → Box
 upright s = record { x = spanOf (s .x); y = spanOf (s .y) }
 
--- ---- the smallest that holds two
+-- ---- around two: the least of both, and the greatest
 abbrev pub lesser : ℤ → ℤ → ℤ
 lesser a b = cond (ltZ b a) b a
 
@@ -35,7 +35,7 @@ spanning a b = record { least = lesser (a .least) (b .least); greatest = greater
 abbrev pub around : Box → Box → Box
 around a b = record { x = spanning (a .x) (b .x); y = spanning (a .y) (b .y) }
 
--- ---- of a tree: around its leaves. The strips above them do not count, for a half may stick out of its whole
+-- ---- of a tree: around its leaves, and no larger (`BoxSmallest`). The strips above them do not count, for a half may stick out of its whole
 abbrev pub boxOf : Tree → Box
 boxOf (leaf s) = upright s
 boxOf (long s) = upright s

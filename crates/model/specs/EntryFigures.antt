@@ -203,6 +203,8 @@ printFigures =
     ∷ prints "(job\n(plate 0 0 4)\n(cell 2)\n(reach 7)\n(grain 1)\n(edge (2 14) (2 14) (2 14) (2 14))\n)\n" "(map 4\n(row CCCC)\n(row DDCC)\n(row IDDC)\n(row IIDC)\n)\n"
     ∷ prints "(job\n(plate 0 0 0)\n(cell 0)\n(reach 1)\n)\n" "(refused 2)\n"
     ∷ prints "(job\n(plate 0 0 0)\n(cell 0)\n(reach 1)\n(grain 1)\n(edge (0 0) (333333 0) (666666 0) (999999 0))\n)\n" "(refused 5)\n"
+    -- 22,517 numbers are more than are lent
+    ∷ prints "(job\n(plate 0 0 0)\n(cell 0)\n(reach 1)\n(grain 489)\n(edge (0 0) (333333 0) (666666 0) (999999 0))\n)\n" "(refused 6)\n"
     -- 256 · 256 cells are drawn
     ∷ prints-first "(job\n(plate 0 0 8)\n(cell 0)\n(reach 1)\n(edge (0 0) (0 0) (0 0) (0 0))\n)\n" "(map 256\n"
     -- 1,489 nodes, and 1,490
@@ -251,4 +253,4 @@ asking-holds =
 
 pub printing-holds : AllHold Holds printFigures
 unfolding printed mapAnswered answered mapText rowsText rowText mapForm refusedForm read readAnswer readSheet ended layout tailLayout jobForm plateForm cellForm reachForm grainForm edgeForm lineForm endForm readAll readLines readLine readForm byte number natural moreDigits digit joined fit marksOf placesOf judge accepted counted ranged celled between coordinate isZero placed isOne spare kind marked writeForm text decimal mapRefusal forest outline edgesFrom curved straight sideAt strip absℤ tree pieces mapOf mapped rowMajor table drawn exploreAll explore isInside isAway₁ isAway₂ root rootBy
-printing-holds = (refl, refl) and refl and refl and refl and refl and refl and refl and tt
+printing-holds = (refl, refl) and refl and refl and refl and refl and refl and refl and refl and tt

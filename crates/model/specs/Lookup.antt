@@ -16,7 +16,8 @@ pub record State : Type 0 where
   pub edge : ℕ
   pub reads : ℕ
 
--- before the first leaf there are no bounds: a number stands for them that is above every leaf's, so that nothing is skipped
+-- before the first leaf there are no bounds. A number stands for them that is above those of every leaf of a legal job's trees, so that nothing is
+-- skipped for it
 abbrev pub none : ℤ
 none = pos (2 ^ 62)
 

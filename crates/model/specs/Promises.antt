@@ -3,11 +3,11 @@
 use mathlib.Core.Path.{_≡_}
 use mathlib.Core.Bool.{true, false}
 use mathlib.Core.Logic.{_⊎_, _↔_}
-use mathlib.Core.List.{List, _++_}
+use mathlib.Core.List.{List, [], _∷_, _++_}
 use Prim.Native.Nat.{ℕ, _+_, _*_, _≤_, _<_}
 use lib.IntN.{ℤ, pos}
 use lib.ListN.{length, getD, take}
-use Rattle.basics.specs.Orders.{num⁺}
+use Rattle.basics.specs.Orders.{_≼_, num⁺}
 use Rattle.model.specs.declared.Job.{Job}
 use Rattle.model.specs.declared.Read.{Read}
 use Rattle.model.specs.declared.Nearest.{Nearest}
@@ -15,12 +15,14 @@ use Rattle.model.specs.Refusals.{Refusal}
 use Rattle.model.specs.Jobs.{coordinate, outline, cellLog, judge}
 use Rattle.model.specs.Bytes.{bytes}
 use Rattle.model.specs.Sheets.{sheetOf}
+use Rattle.model.specs.Strips.{Strip}
 use Rattle.model.specs.Trees.{Tree, anyLong}
+use Rattle.model.specs.Boxes.{Box, upright, boxOf}
 use Rattle.model.specs.Store.{forest, nodesOf}
 use Rattle.model.specs.Fractions.{Frac, whole, Point, dist², _≤ᶠ_}
 use Rattle.model.specs.Plates.{Verdict, letter, columns, cellsOf, mapOf}
 use Rattle.model.specs.Exact.{Points, Outline, CellPoint, Clear, Inside, Exact, R-E, R+E, NoCloser, SomeNear, Demand3}
-use Rattle.model.specs.Distance.{lo, hi, Attains}
+use Rattle.model.specs.Distance.{leaves, lo, hi, Attains}
 use Rattle.model.specs.Lookup.{State, lookup}
 use Rattle.model.specs.Entries.{read, writeRefusal, write, writeLeaves, mapRefusal, map, mapCells, pointRefusal, IsNearest}
 use Rattle.model.specs.Printing.{printed}
@@ -165,6 +167,20 @@ PointBounds = (j : Job) → judge j ≡ 0 → (x y : ℤ) → Bounds j (wholePoi
 -- what an accepted answer for a point bounds
 abbrev pub PointTrue : Type 0
 PointTrue = (j : Job) (x y : ℤ) (store : List ℤ) (r : Nearest) → IsNearest j x y store r → r .refusal ≡ 0 → Bounds j (wholePoint x y) (r .lo) (r .hi)
+
+-- ---- the box of a tree holds the upright box of each of its leaves, and lies in every box that does
+pub record Within (a b : Box) : Type 0 where
+  pub left : b .x .least ≼ a .x .least
+  pub low : b .y .least ≼ a .y .least
+  pub right : a .x .greatest ≼ b .x .greatest
+  pub high : a .y .greatest ≼ b .y .greatest
+
+abbrev pub Every : (Strip → Type 0) → List Strip → Type 0
+Every P [] = Unit {0}
+Every P (s ∷ ss) = P s × Every P ss
+
+abbrev pub BoxSmallest : Type 0
+BoxSmallest = (t : Tree) → Every (λ s. Within (upright s) (boxOf t)) (leaves t) × ((b : Box) → Every (λ s. Within (upright s) b) (leaves t) → Within (boxOf t) b)
 
 -- ---- a lookup that skips gives the bounds over all leaves, and of the edges that may be named the first
 pub record FoundBy (ts : List Tree) (x y : ℤ) (r : State) : Type 0 where

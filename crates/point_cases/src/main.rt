@@ -1,6 +1,6 @@
 // Asks a fixed row of questions of each stored sheet's job, a line for each answer: ten points given the job's own store, and one point given
-// stores that are longer, shorter, changed in one number or without boxes. Beside the bounds it shows how many nodes the lookup read. The second
-// implementation asks the same.
+// stores that are longer, shorter, changed in one number or without boxes. Beside the bounds it shows how many nodes a lookup of that point reads, by
+// a second lookup that tells. The second implementation asks the same.
 use libc::STDOUT_FILENO;
 use model::Job;
 use model::Nearest;
@@ -19,7 +19,7 @@ fn show_number(before: &[u8], n: u64) {
     io::print_decimal(STDOUT_FILENO, n);
 }
 
-// Shows an answer to a question, with the nodes that were read for it, and nothing else.
+// Shows an answer to a question, with the nodes that a lookup of it reads, and nothing else.
 fn show_nearest(near: Nearest, job: Job, x: i32, y: i32, store: &[i32])
     requires answer { ⌜ IsNearest job x y (now store) near ⌝ }
 {

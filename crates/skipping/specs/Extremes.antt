@@ -83,7 +83,7 @@ pub ≺-lesser : {a b z : ℤ} → z ≺ a → z ≺ b → z ≺ lesser a b
     (λ d. subst (λ (w : ℤ). z ≺ w) (sym (lesser-first d)) h)
     (either-way a b)
 
-greater-≼ : {a b z : ℤ} → a ≼ z → b ≼ z → greater a b ≼ z
+pub greater-≼ : {a b z : ℤ} → a ≼ z → b ≼ z → greater a b ≼ z
 greater-≼ {a} {b} {z} h k = ⊎-elim
     (λ d. subst (λ (w : ℤ). w ≼ z) (sym (greater-first (weak d))) h)
     (λ d. subst (λ (w : ℤ). w ≼ z) (sym (greater-second d)) k)

@@ -1,5 +1,6 @@
 -- Why a lookup may skip: a box is no farther than its leaves, and leaves that are no nearer than hi change nothing.
 pub mod Extremes
+pub mod Smallest
 pub mod Least
 pub mod Nearness
 pub mod Visits

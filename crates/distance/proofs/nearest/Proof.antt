@@ -63,7 +63,7 @@ module _ (c : tie.In-loop Inv-loop μ-loop) where
   point = fine (ofZ w32 (entry .args .x)) (ofZ w32 (entry .args .y))
 
   next : (ts : List Tree) → Holds list (entry .args .count) ts → edges.Next point list (entry .args .count) ts (state (c .before .loop .found)) at (c .before .loop .edge)
-  next ts h = edges.next point list (entry .args .count) ts (c .before .loop .inv ts h) (omega (arith, c .loop-test .taken))
+  next ts h = edges.next point list (entry .args .count) ts (c .before .loop .inv ts h) (omega (arith, c .loop-test .taken, c .before .loop .inv ts h .many))
 
   -- of the trees that the contract names
   abbrev known : edges.Next point list (entry .args .count) (entry .pre .0 .trees) (state (c .before .loop .found)) at (c .before .loop .edge)
