@@ -1,7 +1,7 @@
 -- The trees are looked through one after the other, and each turn is a law of `Edges`. A coordinate in fine units is 16 times itself. Assumes nothing.
 use mathlib.Core.Path.{_≡_, ap}
 use mathlib.Core.List.{List}
-use Prim.Native.Nat.{ℕ, _+_, _*_, _-_, _≤_}
+use Prim.Native.Nat.{ℕ, _+_, _*_, _-_, _≤_, _<_}
 use native.Mathlib.Omega.{arith}
 use lib.IntN.{ℤ, pos, natAbs, _*ℤ_}
 use lib.ListN.{length}
@@ -62,8 +62,11 @@ module _ (c : tie.In-loop Inv-loop μ-loop) where
   abbrev point : Cell
   point = fine (ofZ w32 (entry .args .x)) (ofZ w32 (entry .args .y))
 
+  more : c .before .loop .edge < entry .args .count
+  more = omega (arith, c .loop-test .taken, c .before .loop .inv (entry .pre .0 .trees) (entry .pre .0 .holds) .many)
+
   next : (ts : List Tree) → Holds list (entry .args .count) ts → edges.Next point list (entry .args .count) ts (state (c .before .loop .found)) at (c .before .loop .edge)
-  next ts h = edges.next point list (entry .args .count) ts (c .before .loop .inv ts h) (omega (arith, c .loop-test .taken, c .before .loop .inv ts h .many))
+  next ts h = edges.next point list (entry .args .count) ts (c .before .loop .inv ts h) more
 
   -- of the trees that the contract names
   abbrev known : edges.Next point list (entry .args .count) (entry .pre .0 .trees) (state (c .before .loop .found)) at (c .before .loop .edge)
@@ -123,10 +126,10 @@ look-through-requires c κs =
     )
 
 add-edge : tie.Need-add-edge Inv-loop μ-loop
-add-edge c = let i = c .before .before .before in omega (arith, entry i .pre .2, i .loop-test .taken)
+add-edge c = let i = c .before .before .before in omega (arith, entry i .pre .2, more i)
 
 loop-less : tie.Need-loop-less Inv-loop μ-loop
-loop-less c = let i = c .before .before .before in omega (arith, i .loop-test .taken)
+loop-less c = omega (arith, more (c .before .before .before))
 
 loop-again : tie.Need-loop-again Inv-loop μ-loop
 loop-again c = λ ts h.
