@@ -30,6 +30,8 @@ pub data Figure : Type 0 where
   skips : ℤ → Cell → Box → Bool → Figure
   -- what a lookup over a job's trees gives
   looked-up : Job → ℤ → ℤ → State → Figure
+  -- and over these trees
+  looked-over : List Tree → ℤ → ℤ → State → Figure
 
 -- ---- shorthands
 abbrev pub span : ℤ → ℤ → Span
@@ -61,6 +63,7 @@ Holds (ranges c b n f) = (near c b ≡ n) × (far c b ≡ f)
 Holds (ranges² p b n f) = (near² p b ≡ n) × (far² p b ≡ f)
 Holds (skips h p b t) = skipped p b (found (pos 0) h 0 0) ≡ t
 Holds (looked-up j x y st) = lookup (forest j) x y ≡ st
+Holds (looked-over ts x y st) = lookup ts x y ≡ st
 
 -- ---- the table
 abbrev pub boxFigures : List Figure
@@ -100,6 +103,16 @@ boxFigures =
     ∷ looked-up (ruled 2 (pos 10 ∷ pos 0 ∷ pos 10 ∷ pos 0 ∷ pos 0 ∷ pos 0 ∷ pos 0 ∷ pos 0 ∷ negsuc 9 ∷ pos 0 ∷ negsuc 9 ∷ pos 0 ∷ []) (pos 1 ∷ pos 1 ∷ [])) (pos 0) (pos 0) (found (pos 25600) (pos 25600) 0 2)
     -- what one edge has found is handed on: the third is skipped for the second's hi
     ∷ looked-up (ruled 3 (pos 30 ∷ pos 0 ∷ pos 30 ∷ pos 0 ∷ pos 0 ∷ pos 0 ∷ pos 0 ∷ pos 0 ∷ pos 10 ∷ pos 0 ∷ pos 10 ∷ pos 0 ∷ pos 0 ∷ pos 0 ∷ pos 0 ∷ pos 0 ∷ negsuc 19 ∷ negsuc 4 ∷ negsuc 19 ∷ pos 5 ∷ []) (pos 1 ∷ pos 1 ∷ pos 1 ∷ [])) (pos 0) (pos 0) (found (pos 25600) (pos 25600) 1 3)
+    -- no edge at all: what a lookup starts from
+    ∷ looked-over [] (pos 0) (pos 0) (found (pos 4611686018427387904) (pos 4611686018427387904) 0 0)
+    -- a dot as far as two coordinates may be apart, both ways
+    ∷ looked-up (ruled 1 (negsuc 999999 ∷ negsuc 999999 ∷ negsuc 999999 ∷ negsuc 999999 ∷ []) (pos 1 ∷ [])) (pos 1000000) (pos 1000000) (found (pos 2048000000000000) (pos 2048000000000000) 0 1)
+    -- a line at the point, a dot that is nearer than its far end and is named, and a line at the point whose far end is as far as the dot and is not
+    ∷ looked-up (ruled 3 (pos 0 ∷ pos 0 ∷ negsuc 7 ∷ pos 0 ∷ pos 0 ∷ pos 0 ∷ pos 0 ∷ pos 0 ∷ pos 5 ∷ pos 0 ∷ pos 5 ∷ pos 0 ∷ pos 0 ∷ pos 0 ∷ pos 0 ∷ pos 0 ∷ pos 0 ∷ pos 0 ∷ pos 0 ∷ pos 5 ∷ []) (pos 1 ∷ pos 1 ∷ pos 1 ∷ [])) (pos 0) (pos 0) (found (pos 0) (pos 6400) 1 3)
+    -- a node is skipped by its leaves' box where its own strip reaches nearer, and read where only its right half is near
+    ∷ looked-up (mixedJob (pos 0) (pos 0) (pos 0) (pos 0) (pos 1) (pos 7) 3 (negsuc 6 ∷ pos 0 ∷ negsuc 6 ∷ pos 0 ∷ pos 0 ∷ pos 0 ∷ pos 0 ∷ pos 0 ∷ pos 0 ∷ pos 0 ∷ pos 0 ∷ pos 4 ∷ pos 4 ∷ pos 8 ∷ pos 12 ∷ pos 12 ∷ negsuc 3 ∷ pos 20 ∷ negsuc 3 ∷ pos 1 ∷ []) (pos 1 ∷ pos 0 ∷ pos 1 ∷ [])) (negsuc 3) (pos 0) (found (pos 256) (pos 2304) 0 5)
+    -- long ends are read, skipped, taken and named as leaves are
+    ∷ looked-over (leaf (strip-at (pos 100) (pos 0) (pos 0) (pos 0)) ∷ long (strip-at (pos 50) (pos 0) (pos 3) (pos 4)) ∷ node (strip-at (pos 0) (pos 0) (pos 0) (pos 0)) (long (strip-at (negsuc 59) (pos 0) (pos 1) (pos 1))) (long (strip-at (negsuc 39) (pos 0) (pos 2) (pos 3))) ∷ []) (pos 0) (pos 0) (found (pos 1444) (pos 1773) 2 5)
     ∷ []
 
 pub boxes-hold : AllHold Holds boxFigures
@@ -107,5 +120,5 @@ unfolding curved straight sideAt tree pieces strip absℤ forest outline edgesFr
 boxes-hold =
     refl and refl and refl and refl and refl and refl and refl and refl
     and (refl, refl) and (refl, refl) and (refl, refl) and (refl, refl) and (refl, refl) and (refl, refl) and (refl, refl) and (refl, refl) and (refl, refl)
-    and refl and refl and refl and refl and refl and refl and refl
+    and refl and refl and refl and refl and refl and refl and refl and refl and refl and refl and refl and refl
     and tt

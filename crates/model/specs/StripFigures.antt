@@ -135,6 +135,7 @@ stripFigures =
     ∷ pos 184 ∷ pos 294 ∷ pos 27 ∷ pos 47 ∷ pos 3 ∷ pos 14 ∷ pos 1 ∷ pos 154 ∷ pos 233 ∷ pos 214 ∷ pos 355 ∷ [])
     -- a long end is a node too
     ∷ begins-with (flatten (node dot (long dot) (leaf dot))) (pos 0 ∷ pos 0 ∷ pos 0 ∷ pos 0 ∷ pos 2 ∷ pos 2 ∷ pos 3 ∷ negsuc 1 ∷ negsuc 1 ∷ pos 2 ∷ pos 2 ∷ pos 0 ∷ pos 0 ∷ pos 0 ∷ pos 0 ∷ pos 2 ∷ pos 2 ∷ pos 1 ∷ negsuc 1 ∷ negsuc 1 ∷ pos 2 ∷ pos 2 ∷ pos 0 ∷ []) true
+    ∷ begins-with (flatten (long (shown 3 5))) (pos 0 ∷ pos 0 ∷ pos 3 ∷ pos 5 ∷ pos 2 ∷ pos 2 ∷ pos 1 ∷ negsuc 4 ∷ negsuc 6 ∷ pos 5 ∷ pos 7 ∷ []) true
     -- more may follow, and none may be missing or another, in its sign either
     ∷ begins-with (pos 5 ∷ negsuc 5 ∷ pos 7 ∷ []) (pos 5 ∷ negsuc 5 ∷ []) true
     ∷ begins-with (pos 5 ∷ negsuc 5 ∷ []) (pos 5 ∷ negsuc 5 ∷ []) true
@@ -169,6 +170,6 @@ strips-hold =
     and refl and refl and refl and refl and refl and refl and refl and refl and refl and refl and refl and refl and refl and refl and refl and refl and refl
     and refl and refl and refl and refl
     and (refl, refl)
-    and refl and refl and refl and refl and refl and refl and refl and refl and refl and refl
+    and refl and refl and refl and refl and refl and refl and refl and refl and refl and refl and refl
     and refl and refl and refl and refl and refl and refl and refl and refl and refl and refl and refl and refl and refl
     and tt
