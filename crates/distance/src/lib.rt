@@ -92,7 +92,7 @@ fn look_through(part: &[i32], edge: usize, x: i32, y: i32, before: Found) -> Fou
 
 // Of the point (x, y), over a job's trees, with which the store begins: each is a part by itself, and ends where its count says.
 pub fn nearest(store: &[i32], count: usize, x: i32, y: i32) -> Found
-    requires held { ⌜ TreesOf (now store) count × (0 < count) × (count ≤ 64) × (natAbs x ≤ 1000000) × (natAbs y ≤ 1000000) ⌝ }
+    requires held { ⌜ TreesOf (now store) count × (natAbs x ≤ 1000000) × (natAbs y ≤ 1000000) ⌝ }
     ensures found { λ r. ⌜ ((ts : List Tree) → Holds (now (store .entry)) count ts → state r ≡ lookup ts x y) ⌝ }
 {
     let mut found = Found {

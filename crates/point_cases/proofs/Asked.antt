@@ -10,14 +10,13 @@ use Rattle.model.specs.Jobs.{coordinate, own, judge}
 use Rattle.model.specs.Store.{forest, storeOf, begins}
 use Rattle.model.specs.Entries.{treesChecks, spotCheck, pointRefusal}
 use Rattle.ranges.specs.Refusals.{all-pass, passed-all, each-passed}
-use Rattle.ranges.specs.Legal.{coordinate-true, coordinate-size, Legal, legal}
+use Rattle.ranges.specs.Legal.{coordinate-true, coordinate-size, legal}
 use Rattle.ranges.specs.Jobs.{forest-sized}
 use Rattle.subtrees.specs.Begins.{begins-all}
 use Rattle.subtrees.specs.Fronts.{TreesOf}
 use Rattle.subtrees.specs.Sizes.{forest-many}
 
 pub record Asked (j : Job) (x y : ℤ) (store : List ℤ) : Type 0 where
-  pub job : Legal j
   pub x-in : natAbs x ≤ 1000000
   pub y-in : natAbs y ≤ 1000000
   pub trees : TreesOf store (j .count)
@@ -32,7 +31,6 @@ asked j x y store e =
     let l = legal j (all-pass (own j []) (p .0, (p .1 .0, (p .1 .1 .1 .0, tt)))) in
     let b = passed-all last (each-passed (treesChecks j store) last (h .1) .1) .0 in
     record {
-      job = l;
       x-in = coordinate-size x (coordinate-true (s .0));
       y-in = coordinate-size y (coordinate-true (s .1));
       trees = record { trees = forest j; holds = record { many = forest-many j; begins = begins-all (forest j) store b; sized = forest-sized j l } };

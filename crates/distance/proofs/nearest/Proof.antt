@@ -108,10 +108,10 @@ part-look-through-end : tie.Need-part-look-through-end Inv-loop μ-loop
 part-look-through-end c = omega (arith, ends c)
 
 mul-look-through-2 : tie.Need-mul-look-through-2 Inv-loop μ-loop
-mul-look-through-2 c = let s = entry (c .before .before) in fine-fits (s .args .x) (s .pre .3) (s .fits .x)
+mul-look-through-2 c = let s = entry (c .before .before) in fine-fits (s .args .x) (s .pre .1) (s .fits .x)
 
 mul-look-through-3 : tie.Need-mul-look-through-3 Inv-loop μ-loop
-mul-look-through-3 c = let s = entry (c .before .before) in fine-fits (s .args .y) (s .pre .4) (s .fits .y)
+mul-look-through-3 c = let s = entry (c .before .before) in fine-fits (s .args .y) (s .pre .2) (s .fits .y)
 
 look-through-requires : tie.Need-look-through-requires Inv-loop μ-loop
 look-through-requires c κs =
@@ -120,13 +120,13 @@ look-through-requires c κs =
     let s = entry i in
     let n = known i in (
       record { tree = n .tree; is = there k (n .tree) (n .here) .part; sized = n .here .sized },
-      fine-size (s .args .x) (s .pre .3) (s .fits .x),
-      fine-size (s .args .y) (s .pre .4) (s .fits .y),
+      fine-size (s .args .x) (s .pre .1) (s .fits .x),
+      fine-size (s .args .y) (s .pre .2) (s .fits .y),
       omega (arith, few i, ends k),
     )
 
 add-edge : tie.Need-add-edge Inv-loop μ-loop
-add-edge c = let i = c .before .before .before in omega (arith, entry i .pre .2, more i)
+add-edge c = omega (arith, more (c .before .before .before))
 
 loop-less : tie.Need-loop-less Inv-loop μ-loop
 loop-less c = omega (arith, more (c .before .before .before))
@@ -138,7 +138,7 @@ loop-again c = λ ts h.
     let s = entry i in
     let n = next i ts h in
     let w = there k (n .tree) (n .here) in
-    let r = rw (fine-is (s .args .x) (s .pre .3) (s .fits .x), fine-is (s .args .y) (s .pre .4) (s .fits .y)) at (c .look-through .ensures .0 (n .tree) (n .here .sized) (w .part)) in
+    let r = rw (fine-is (s .args .x) (s .pre .1) (s .fits .x), fine-is (s .args .y) (s .pre .2) (s .fits .y)) at (c .look-through .ensures .0 (n .tree) (n .here .sized) (w .part)) in
     n .past (omega (arith, w .n-is)) (omega arith) r (omega (arith, c .look-through .ensures .1, ap length (w .part), length-flatten (n .tree)))
 
 returns : tie.Need-returns Inv-loop μ-loop

@@ -41,7 +41,7 @@ nearest-requires c κs =
     let e = c .before .before .before .before .before .before .before .before .before .before in
     let s = e .before in
     let a = asked (s .args .job) (s .args .x) (s .args .y) (s .args .store .now) (sym (s .pre .refusal-is) ∙ e .if1 .left) in
-    rw (toZ-ofZ (s .fits .x), toZ-ofZ (s .fits .y)) (a .trees, a .job .some, a .job .few, a .x-in, a .y-in)
+    rw (toZ-ofZ (s .fits .x), toZ-ofZ (s .fits .y)) (a .trees, a .x-in, a .y-in)
 
 slice-aggregate-show-number-4 : tie.Need-slice-aggregate-show-number-4
 slice-aggregate-show-number-4 c = search needs

@@ -103,7 +103,7 @@ nearest-requires c κs =
     let g = c .before .before .before .before .before .before .before .before .before .before .before .before in
     let s = g .before .before in
     let p = good g in
-    rw (toZ-ofZ (s .fits .x), toZ-ofZ (s .fits .y)) (record { trees = forest (s .args .job); holds = trees-held (s .args .job) (s .args .x) (s .args .y) (s .args .store .now) p (holds c) }, p .job .some, p .job .few, p .x-in, p .y-in)
+    rw (toZ-ofZ (s .fits .x), toZ-ofZ (s .fits .y)) (record { trees = forest (s .args .job); holds = trees-held (s .args .job) (s .args .x) (s .args .y) (s .args .store .now) p (holds c) }, p .x-in, p .y-in)
 
 returns-4 : tie.Need-returns-4
 returns-4 c =
