@@ -37,7 +37,8 @@ pub fn map(job: &Job, store: &mut [i32], cells: &mut [u8]) -> Result<usize, Refu
 }
 
 /// Bounds the distance from a spot to the outline whose trees the store holds.
-/// Refuses with 2, 3, 4, 5, 6 or 8.
+/// The edge is the first in job order, counted from 0, of whose leaves one
+/// attains hi. Refuses with 2, 3, 4, 5, 6 or 8.
 pub fn point(job: &Job, x: i32, y: i32, store: &[i32]) -> Result<Nearest, Refusal> {
     point_with_reads(job, x, y, store).map(|lookup| lookup.nearest)
 }

@@ -18,7 +18,8 @@ pub struct Nearest {
     pub lo: i64,
     /// Some point of the outline is no farther than this.
     pub hi: i64,
-    /// The first edge with a leaf that attains `hi`.
+    /// The first edge in job order, counted from 0, of whose leaves one attains
+    /// `hi`. Callers may count on it.
     pub edge: usize,
 }
 
@@ -33,8 +34,9 @@ pub struct Lookup {
 }
 
 /// The bounds for a spot in hundredths of a millimetre; `None` without edges.
-/// The trees are gone through in the order of the store. The spot is in range,
-/// which the entries see to, so its squares fit 64 bits.
+/// The trees are gone through in the order of the store, so the first edge that
+/// attains hi is met before the others that do. The spot is in range, which the
+/// entries see to, so its squares fit 64 bits.
 pub fn lookup(trees: &[Tree], x: i32, y: i32) -> Option<Lookup> {
     let mut search = Search {
         spot: [x, y].map(|number| 16 * i64::from(number)),
@@ -79,7 +81,8 @@ impl Search {
         }
     }
 
-    /// Joins the bounds of one leaf to those so far.
+    /// Joins the bounds of one leaf to those so far. An edge that only equals the
+    /// least hi is not the first to attain it.
     fn take(&mut self, edge: usize, lo: i64, hi: i64) {
         self.best = Some(match self.best {
             None => Nearest { lo, hi, edge },

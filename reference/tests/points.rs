@@ -3,9 +3,10 @@
 
 mod common;
 
-use clearance_reference::{point, Job, Nearest, Refusal};
+use clearance_reference::{point, Job, Refusal};
 use common::brute_force::{edge_points, outline_points, scaled_square, squared_distance};
 use common::jobs::random_job;
+use common::plain::bounds_from_store;
 use common::random::Xorshift;
 use common::{edge, finished, job_with, line, point_edge};
 
@@ -39,23 +40,6 @@ fn the_bounds_hold() {
             assert!(on_named <= scaled_square(i128::from(nearest.hi)));
         }
     }
-}
-
-/// The definition again, straight from the numbers of the store.
-fn bounds_from_store(store: &[i32], spot: [i32; 2]) -> (i64, i64) {
-    let (mut lo, mut hi) = (i64::MAX, i64::MAX);
-    for node in store.chunks(11).filter(|node| node[6] == 1) {
-        let node: Vec<i64> = node.iter().copied().map(i64::from).collect();
-        let (mut near, mut far) = (0, 0);
-        for c in 0..2 {
-            let offset = (16 * i64::from(spot[c]) - node[c]).abs();
-            let half = node[2 + c].abs() + node[4 + c];
-            near += (offset - half).max(0).pow(2);
-            far += (offset + half).pow(2);
-        }
-        (lo, hi) = (lo.min(near), hi.min(far));
-    }
-    (lo, hi)
 }
 
 #[test]
@@ -182,19 +166,4 @@ fn another_job_with_the_same_trees_is_no_stranger() {
     // A shifted edge has a tree of the same shape, so the length still suits.
     let moved = job_with(&[edge([1, 6, 10, 3], [1, 1, 4, 8])], 3);
     assert_eq!(point(&moved, 3, 3, &store), Err(Refusal::Stranger));
-}
-
-/// A point edge has no box, so at the edge itself both bounds are 0.
-#[test]
-fn equal_edges_name_the_first() {
-    let far = point_edge(50);
-    let near = point_edge(3);
-    let job = job_with(&[far, near, near, far], 1);
-    let store = finished(&job).unwrap().store;
-    let wanted = Nearest {
-        lo: 0,
-        hi: 0,
-        edge: 1,
-    };
-    assert_eq!(point(&job, 3, 3, &store), Ok(wanted));
 }

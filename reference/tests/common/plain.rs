@@ -1,5 +1,6 @@
 //! Point lookups again, apart from those of the crate: the bounds by asking
-//! every leaf's strip, and the reads by stepping through the numbers of a store.
+//! every leaf's strip, also edge by edge from a store, and the reads by stepping
+//! through the numbers of a store.
 
 use clearance_reference::strips::Strip;
 use clearance_reference::trees::Tree;
@@ -66,6 +67,37 @@ fn strip_bounds(strip: &Strip, spot: [i32; 2]) -> (i128, i128) {
 fn squared_length(from: [i64; 2], to: [i64; 2]) -> i128 {
     let [x, y] = [0, 1].map(|c| i128::from(to[c]) - i128::from(from[c]));
     x * x + y * y
+}
+
+/// lo and hi by the definition, straight from the centres, axes and boxes of the
+/// leaves in a store.
+pub fn bounds_from_store(store: &[i32], spot: [i32; 2]) -> (i64, i64) {
+    let (mut lo, mut hi) = (i64::MAX, i64::MAX);
+    for node in store.chunks(11).filter(|node| node[6] == 1) {
+        let node: Vec<i64> = node.iter().copied().map(i64::from).collect();
+        let (mut near, mut far) = (0, 0);
+        for c in 0..2 {
+            let offset = (16 * i64::from(spot[c]) - node[c]).abs();
+            let half = node[2 + c].abs() + node[4 + c];
+            near += (offset - half).max(0).pow(2);
+            far += (offset + half).pow(2);
+        }
+        (lo, hi) = (lo.min(near), hi.min(far));
+    }
+    (lo, hi)
+}
+
+/// The same of each edge by itself, in job order.
+pub fn bounds_by_edge(store: &[i32], spot: [i32; 2]) -> Vec<(i64, i64)> {
+    let mut bounds = Vec::new();
+    let mut rest = store;
+    while let Some(root) = rest.first_chunk::<11>() {
+        let (tree, others) = rest.split_at(11 * root[6] as usize);
+        bounds.push(bounds_from_store(tree, spot));
+        rest = others;
+    }
+    assert!(rest.is_empty());
+    bounds
 }
 
 /// What stepping through a store came to.
