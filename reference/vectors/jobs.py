@@ -133,6 +133,25 @@ def around():
           [45, 51, -35, 51], [-35, 51, -46, 51, -55, 42, -55, 31], [-55, 31, -55, -49], [-55, -49, -55, -60, -46, -69, -35, -69]])
 
 
+def first_edges():
+    """Points whose hi several edges attain, or another edge than lo: the first that attains hi is named."""
+    # At the plate's corner, (4, 0), all three are equally near; at the origin the first and the last.
+    three = [[0, 0] * 4, [8, 0] * 4, [0, 0] * 4]
+    case("three_points", 4, 0, 4, 1, 4, 1, three)
+    # The plate's corner is at the second.
+    case("three_points_at_the_second", 8, 0, 4, 1, 4, 1, three)
+    # From the origin lo is the first edge's, and hi the second's.
+    case("line_and_point", -8, -8, 4, 1, 4, 20, [cubic([-9, -3, 3, 9], [1] * 4), [2, 2] * 4])
+    bend, far, farther = cubic([0, 0, 4, 12], [0, 4, 8, 12]), [-60, 60] * 4, [-60, -70] * 4
+    case("equal_edges_in_front", -16, -16, 5, 1, 5, 7, [bend, bend, far])
+    case("equal_edges_in_the_middle", -16, -16, 5, 1, 5, 7, [far, bend, bend, farther])
+    # Asked at its four corners, at each of which two sides end.
+    case("shared_ends", 0, 8, 4, 1, 2, 1, [[8, 0, 8, 8], [8, 8, 0, 8], [0, 8, 0, 0], [0, 0, 8, 0]])
+    # From the origin the second edge attains hi with its first leaf: alone, and together with the first edge's last.
+    case("first_leaf_alone", -8, -8, 4, 1, 2, 1, [[8, -1, 0, -1], [0, 0, 0, 8]])
+    case("first_leaf_and_last", -8, -8, 4, 1, 2, 1, [[8, 0, 0, 0], [0, 0, 0, 8]])
+
+
 def sizes():
     """Trees that just fit what the program lends, 1,489 nodes, and that just do not; and the deepest that do."""
     fitting = [line(0, 0, length, 0) for length in (450000, 123000, 60000, 30000, 6000, 1500, 1500)]
@@ -198,7 +217,7 @@ def store(crate, names):
 
 
 def main():
-    for group in (shapes, plates, extremes, refused, random_jobs, lines, pads, around):
+    for group in (shapes, plates, extremes, refused, random_jobs, lines, pads, around, first_edges):
         group()
     for_points = [name for name in cases if name not in NOT_FOR_POINTS]
     straight = [0, 0, 333333, 0, 666666, 0, 999999, 0]
