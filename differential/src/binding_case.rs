@@ -75,7 +75,6 @@ fn compare_map(random: &mut Random, job: &Numbers, tally: &mut Tally) -> Result<
     Ok(store)
 }
 
-/// The edge is left to the library; the other cases look at it.
 fn compare_point(
     random: &mut Random,
     job: &Numbers,
@@ -91,8 +90,8 @@ fn compare_point(
     Comparison::default()
         .value(
             "safe point",
-            got.map(|nearest| (nearest.lo, nearest.hi)),
-            want.map(|nearest| (nearest.lo, nearest.hi)),
+            got.map(|nearest| (nearest.lo, nearest.hi, nearest.edge)),
+            want.map(|nearest| (nearest.lo, nearest.hi, nearest.edge)),
         )
         .finish(|| format!("point {x} {y} of {}", describe(job)))
 }

@@ -5,6 +5,16 @@ use crate::random::Random;
 use crate::tally::Tally;
 use crate::{binding_case, largest_case, map_case, point_case, read_case, write_case};
 
+/// Which ties a kind is there to draw.
+#[derive(Clone, Copy)]
+pub enum Ties {
+    None,
+    /// Of each test of a strip.
+    OfTests,
+    /// Of edges that attain hi, at a third of its points at least.
+    OfEdges,
+}
+
 /// One kind of case.
 pub struct Kind {
     pub name: &'static str,
@@ -12,8 +22,8 @@ pub struct Kind {
     share: usize,
     /// Numbers that its calls must give in a whole pass, or it was no test.
     pub must_give: &'static [u8],
-    /// Whether a tie of each test must be drawn in a whole pass.
-    pub must_tie: bool,
+    /// Ties that must be drawn in a whole pass.
+    pub must_tie: Ties,
     /// Runs one case.
     pub run: fn(&mut Random, &mut Tally) -> Result<(), Fault>,
 }
@@ -28,20 +38,17 @@ const fn kind(
         name,
         share,
         must_give,
-        must_tie: false,
+        must_tie: Ties::None,
         run,
     }
 }
 
-const fn with_ties(kind: Kind) -> Kind {
-    Kind {
-        must_tie: true,
-        ..kind
-    }
+const fn with_ties(must_tie: Ties, kind: Kind) -> Kind {
+    Kind { must_tie, ..kind }
 }
 
 /// All of them.
-pub const KINDS: [Kind; 17] = [
+pub const KINDS: [Kind; 18] = [
     kind("sheets of legal jobs", 8, &[0], read_case::legal),
     kind("sheets of odd numbers", 16, &[0, 2, 3, 4], read_case::odd),
     kind("sheets damaged", 32, &[0, 1, 2, 3, 4], read_case::damaged),
@@ -54,7 +61,10 @@ pub const KINDS: [Kind; 17] = [
         write_case::illegal,
     ),
     kind("maps drawn", 24, &[0, 2, 5], map_case::drawn),
-    with_ties(kind("maps at ties", 10, &[0], map_case::tied)),
+    with_ties(
+        Ties::OfTests,
+        kind("maps at ties", 10, &[0], map_case::tied),
+    ),
     kind("maps of many edges", 3, &[0], map_case::crowded),
     kind("maps by length", 8, &[0, 5, 6, 7], map_case::lengths),
     kind(
@@ -64,6 +74,10 @@ pub const KINDS: [Kind; 17] = [
         map_case::illegal,
     ),
     kind("points answered", 8, &[0, 2, 5], point_case::answered),
+    with_ties(
+        Ties::OfEdges,
+        kind("points at ties", 8, &[0], point_case::tied),
+    ),
     kind("points by store", 10, &[0, 5, 6, 8], point_case::stores),
     kind("points by number", 3, &[0, 6, 8], point_case::numbers),
     kind(

@@ -18,6 +18,7 @@ mod options;
 mod point_case;
 mod random;
 mod read_case;
+mod repeats;
 mod rows;
 mod run;
 mod sheets;

@@ -1,11 +1,11 @@
-//! Points: the library beside the second implementation. Of several edges that
-//! attain hi the library may name any.
+//! Points: the library beside the second implementation.
 
 use crate::fault::{number_of, Comparison, Fault};
 use crate::jobs::{crowded_job, sketch_job, tuned_job};
 use crate::lent::Lent;
-use crate::numbers::{describe, reference_job, Numbers};
+use crate::numbers::{binding_job, describe, reference_job, Numbers};
 use crate::random::Random;
+use crate::repeats::{attaining_edges, repeated_job};
 use crate::rows::Row;
 use crate::spoiling::spoil;
 use crate::spots::{odd_spot, spot_in_range};
@@ -15,7 +15,6 @@ use crate::stores::{
 };
 use crate::tally::Tally;
 use clearance::ffi;
-use clearance_reference::trees;
 
 /// Asks both for a point and compares everything.
 pub fn compare(
@@ -45,10 +44,8 @@ pub fn compare(
 
     let result = clearance_reference::point(&reference_job(&job), x, y, given_store.part());
     if let Ok(n) = &result {
-        let named = nearest.part()[2];
-        let fits = attains(&job, named, [x, y], n.hi);
-        let edge = if fits { named } else { n.edge as i64 };
-        wanted.part_mut().copy_from_slice(&[n.lo, n.hi, edge]);
+        let numbers = [n.lo, n.hi, n.edge as i64];
+        wanted.part_mut().copy_from_slice(&numbers);
     }
     tally.note(number_of(&result));
     Comparison::default()
@@ -61,22 +58,6 @@ pub fn compare(
             let (long, job) = (row.length(), describe(&job));
             format!("point {x} {y} of a store of {numbers}, row of {long}, {job}")
         })
-}
-
-/// Whether the edge has a leaf whose greatest squared distance is this one.
-fn attains(job: &Numbers, edge: i64, spot: [i32; 2], hi: i64) -> bool {
-    let trees = trees::grow(&reference_job(job)).unwrap_or_default();
-    let tree = usize::try_from(edge).ok().and_then(|edge| trees.get(edge));
-    tree.is_some_and(|tree| {
-        tree.leaves().into_iter().any(|leaf| {
-            let extent = leaf.extent();
-            let far = [0, 1].map(|c| {
-                let apart = (16 * i64::from(spot[c]) - leaf.centre[c]).abs();
-                (apart + extent[c]).pow(2)
-            });
-            far[0] + far[1] == hi
-        })
-    })
 }
 
 /// Points in range, asked of the right store. Many edges leave much to skip.
@@ -92,6 +73,40 @@ pub fn answered(random: &mut Random, tally: &mut Tally) -> Result<(), Fault> {
         compare(&job, spot, &store, random.bits(), tally)?;
     }
     Ok(())
+}
+
+/// Points that several edges are equally near, most of them.
+pub fn tied(random: &mut Random, tally: &mut Tally) -> Result<(), Fault> {
+    let (job, spots) = repeated_job(random);
+    let right = right_numbers(&job);
+    for spot in spots {
+        let store = right_store(random, &right);
+        compare(&job, spot, &store, random.bits(), tally)?;
+        compare_edge(&job, spot, &right, tally)?;
+    }
+    Ok(())
+}
+
+/// The library's edge beside the first that attains hi by way of all leaves, so
+/// that a lookup that skips is held to one that does not.
+fn compare_edge(
+    job: &Numbers,
+    [x, y]: [i32; 2],
+    right: &[i32],
+    tally: &mut Tally,
+) -> Result<(), Fault> {
+    let Ok(nearest) = clearance::point(&binding_job(job), x, y, right) else {
+        return Ok(());
+    };
+    let edges = attaining_edges(job, [x, y]);
+    if edges.len() > 1 {
+        tally.note_shared();
+    }
+    Comparison::default()
+        .demand(edges.first() == Some(&nearest.edge), || {
+            format!("edge: {} of {edges:?}, which attain hi", nearest.edge)
+        })
+        .finish(|| format!("point {x} {y} of {}", describe(job)))
 }
 
 /// Points asked of stores that are short, changed or another job's.

@@ -72,8 +72,8 @@ impl Run {
                     return None;
                 }
             }
-            if kind.must_tie && tally.ties.contains(&0) {
-                println!("NO TEST: {} never drew a tie of some test", kind.name);
+            if !tally.has_drawn(kind.must_tie) {
+                println!("NO TEST: {} drew too few ties", kind.name);
                 return None;
             }
         }

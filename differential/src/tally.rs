@@ -1,5 +1,6 @@
 //! Counts of what was compared.
 
+use crate::kinds::Ties;
 use crate::ties::{Test, TESTS};
 use std::fmt;
 
@@ -11,7 +12,9 @@ pub struct Tally {
     /// Calls compared, by the number they gave.
     pub numbers: [u64; 9],
     /// Ties drawn, by the test.
-    pub ties: [u64; TESTS],
+    ties: [u64; TESTS],
+    /// Points whose hi several edges attain, where they are counted.
+    shared: u64,
 }
 
 impl Tally {
@@ -23,6 +26,20 @@ impl Tally {
     /// Notes a tie that was drawn.
     pub fn note_tie(&mut self, test: Test) {
         self.ties[test as usize] += 1;
+    }
+
+    /// Notes a point whose hi several edges attain.
+    pub fn note_shared(&mut self) {
+        self.shared += 1;
+    }
+
+    /// Whether as many ties were drawn as must be.
+    pub fn has_drawn(&self, ties: Ties) -> bool {
+        match ties {
+            Ties::None => true,
+            Ties::OfTests => !self.ties.contains(&0),
+            Ties::OfEdges => 3 * self.shared >= self.calls(),
+        }
     }
 
     /// Calls compared.
@@ -42,12 +59,16 @@ impl fmt::Display for Tally {
             })
             .collect();
         write!(out, " {}", words.join(", "))?;
-        match self.ties {
-            [0, 0, 0, 0] => Ok(()),
-            [inside, apart, no_axis, across] => write!(
+        let [inside, apart, no_axis, across] = self.ties;
+        if self.ties != [0; TESTS] {
+            write!(
                 out,
                 "; ties: {inside} inside, {apart} apart, {no_axis} apart without an axis, {across} across"
-            ),
+            )?;
         }
+        if self.shared > 0 {
+            write!(out, "; ties: {} of edges", self.shared)?;
+        }
+        Ok(())
     }
 }
