@@ -1,9 +1,11 @@
--- RULES, "Distance": the bounds of a point's squared distance, in fine units, and the edges that may be named. Assumes nothing.
+-- RULES, "Distance": the bounds of a point's squared distance, in fine units, and the edge that is named. Assumes nothing.
 use mathlib.Core.Path.{_≡_}
+use mathlib.Core.Bool.{cond}
 use mathlib.Core.List.{List, [], _∷_, _++_}
 use mathlib.Core.Logic.{_⊎_}
 use Prim.Native.Nat.{ℕ, zero, suc}
 use lib.IntN.{ℤ, pos, _-ℤ_, _*ℤ_}
+use Rattle.model.specs.Sheets.{same}
 use Rattle.model.specs.Strips.{Strip}
 use Rattle.model.specs.Trees.{Tree, leaf, long, node}
 use Rattle.model.specs.Boxes.{Span, Box, lesser, greater}
@@ -36,7 +38,15 @@ lo ts x y = least (closest² (spot x y)) (leavesAll ts)
 abbrev pub hi : List Tree → ℤ → ℤ → ℤ
 hi ts x y = least (farthest² (spot x y)) (leavesAll ts)
 
--- ---- the edges that may be named: one of the edge's leaves attains the upper bound
+-- ---- the edge named: counted from 0, the first of the trees whose own least value is the upper bound
+unfoldable pub firstAt : (Strip → ℤ) → ℤ → List Tree → ℕ
+firstAt f z [] = 0
+firstAt f z (t ∷ ts) = cond (same (least f (leaves t)) z) 0 (suc (firstAt f z ts))
+
+abbrev pub named : List Tree → ℤ → ℤ → ℕ
+named ts x y = firstAt (farthest² (spot x y)) (hi ts x y) ts
+
+-- ---- the edges of which some leaf attains the upper bound; that the edge named is the first of them is a promise
 unfoldable pub leavesAt : List Tree → ℕ → List Strip
 leavesAt [] e = []
 leavesAt (t ∷ ts) zero = leaves t

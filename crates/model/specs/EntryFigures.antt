@@ -8,7 +8,6 @@ use Prim.Native.Nat.{ℕ}
 use Prim.Native.String.{String}
 use lib.IntN.{ℤ, pos, negsuc}
 use lib.ListN.{length, take, replicate}
-use native.Mathlib.Omega.{arith}
 use Rattle.basics.specs.Lists.{table, rowMajor}
 use Rattle.basics.specs.Numbers.{absℤ}
 use Rattle.model.specs.declared.Job.{Job}
@@ -28,10 +27,10 @@ use Rattle.model.specs.Store.{forest, begins}
 use Rattle.model.specs.Roots.{rootBy, root}
 use Rattle.model.specs.Explore.{isInside, isAway₁, isAway₂, explore, exploreAll}
 use Rattle.model.specs.Plates.{drawn, mapped, mapOf}
-use Rattle.model.specs.Distance.{leaves, leavesAll, leavesAt, least}
-use Rattle.model.specs.Entries.{readChecks, readAnswer, read, writeRefusal, write, writeLeaves, mapRefusal, map, mapStore, mapCells, pointRefusal, IsNearest}
+use Rattle.model.specs.Distance.{leaves, leavesAll, least, firstAt}
+use Rattle.model.specs.Entries.{readChecks, readAnswer, read, writeRefusal, write, writeLeaves, mapRefusal, map, mapStore, mapCells, pointRefusal, point}
 use Rattle.model.specs.Printing.{rowText, rowsText, mapForm, refusedForm, mapText, storeLent, cellsLent, answered, mapAnswered, printed}
-use Rattle.model.specs.FigureTables.{AllHold, _and_, unequal, job, mixedJob}
+use Rattle.model.specs.FigureTables.{AllHold, _and_, job, mixedJob}
 
 pub data Figure : Type 0 where
   -- whether the numbers of some checks rise, from n on
@@ -50,8 +49,6 @@ pub data Figure : Type 0 where
   point-refused : Job → ℤ → ℤ → List ℤ → ℕ → Figure
   -- the whole answer
   point-of : Job → ℤ → ℤ → List ℤ → Nearest → Figure
-  -- an answer that is not permitted
-  not-point-of : Job → ℤ → ℤ → List ℤ → Nearest → Figure
   -- how many numbers and how many bytes the program lends
   lends : ℕ → ℕ → Figure
   -- the program's input and what it prints, or how that begins
@@ -66,8 +63,7 @@ Holds (write-refused j n k) = writeRefusal j (replicate n 0) ≡ k
 Holds (maps j s c a t d) = (map j s c ≡ a) × (mapStore j s c ≡ t) × (mapCells j s c ≡ d)
 Holds (map-refused j s c k) = mapRefusal j (replicate s (pos 0)) (replicate c 0) ≡ k
 Holds (point-refused j x y ns k) = pointRefusal j x y ns ≡ k
-Holds (point-of j x y ns a) = IsNearest j x y ns a
-Holds (not-point-of j x y ns a) = IsNearest j x y ns a → ⊥
+Holds (point-of j x y ns a) = point j x y ns ≡ a
 Holds (lends s c) = (storeLent ≡ s) × (cellsLent ≡ c)
 Holds (prints s t) = printed (bytes s) ≡ bytes t
 Holds (prints-first s t) = take (length (bytes t)) (printed (bytes s)) ≡ bytes t
@@ -102,9 +98,6 @@ abbrev pub ruledStore : List ℤ
 ruledStore =
     pos 160 ∷ pos 112 ∷ pos 0 ∷ pos 0 ∷ pos 0 ∷ pos 0 ∷ pos 1 ∷ pos 160 ∷ pos 112 ∷ pos 160 ∷ pos 112
     ∷ pos 192 ∷ pos 240 ∷ pos 16 ∷ negsuc 15 ∷ pos 0 ∷ pos 0 ∷ pos 1 ∷ pos 176 ∷ pos 224 ∷ pos 208 ∷ pos 256 ∷ []
-
-abbrev pub answer : ℕ → ℤ → ℤ → ℕ → Nearest
-answer k l h e = record { refusal = k; lo = l; hi = h; edge = e }
 
 abbrev pub soundSheet : String
 soundSheet = "(job\n(plate 0 0 1)\n(cell 0)\n(reach 9)\n(edge (0 0) (0 0) (0 0) (0 0))\n)\n"
@@ -183,16 +176,12 @@ pointFigures =
     -- the nearer of two edges, where x and y exchanged, or one of them in place of the other, would name the other edge
     ∷ point-of pair (pos 9) (pos 1) pairStore (record { refusal = 0; lo = pos 9472; hi = pos 9472; edge = 1 })
     ∷ point-of pair (pos 4) (pos 12) pairStore (record { refusal = 0; lo = pos 15616; hi = pos 15616; edge = 1 })
-    -- the bounds apart: edge 0 attains the greater one, and edge 1 the lesser. No number of the answer may be another
-    ∷ point-of ruled (pos 9) (pos 11) ruledStore (answer 0 (pos 3328) (pos 4352) 0)
-    ∷ not-point-of ruled (pos 9) (pos 11) ruledStore (answer 1 (pos 3328) (pos 4352) 0)
-    ∷ not-point-of ruled (pos 9) (pos 11) ruledStore (answer 0 (pos 4352) (pos 4352) 0)
-    ∷ not-point-of ruled (pos 9) (pos 11) ruledStore (answer 0 (pos 3328) (pos 4353) 0)
-    ∷ not-point-of ruled (pos 9) (pos 11) ruledStore (answer 0 (pos 3328) (pos 4352) 1)
-    ∷ not-point-of sound off (pos 4) soundStore (answer 3 (pos 0) (pos 0) 1)
-    ∷ point-of sound off (pos 4) soundStore (refused 3)
-    ∷ point-of sound (pos 3) (pos 4) [] (refused 6)
-    ∷ point-of sound (pos 3) (pos 4) (replicate 11 (pos 2)) (refused 8)
+    -- the bounds apart: edge 0 attains the greater one, and edge 1 the lesser
+    ∷ point-of ruled (pos 9) (pos 11) ruledStore (record { refusal = 0; lo = pos 3328; hi = pos 4352; edge = 0 })
+    -- zeros, where an answer would name edge 1
+    ∷ point-of pair off (pos 4) pairStore (refused 3)
+    ∷ point-of pair (pos 9) (pos 1) [] (refused 6)
+    ∷ point-of pair (pos 9) (pos 1) (replicate 22 (pos 2)) (refused 8)
     ∷ []
 
 -- ---- printing
@@ -230,25 +219,11 @@ drawing-holds =
     and refl and refl and refl and refl and refl and refl and refl and refl
     and tt
 
-one : _≡_ {A = ℕ} 1 0 → ⊥
-one e = absurd (omega arith)
-
 pub asking-holds : AllHold Holds pointFigures
-unfolding pointRefusal accepted counted ranged celled between coordinate isZero placed isOne spare kind marked forest outline edgesFrom curved straight sideAt strip absℤ tree pieces begins same leaves leavesAll leavesAt least
+unfolding point pointRefusal accepted counted ranged celled between coordinate isZero placed isOne spare kind marked forest outline edgesFrom curved straight sideAt strip absℤ tree pieces begins same leaves leavesAll least firstAt
 asking-holds =
     refl and refl and refl and refl and refl and refl and refl and refl and refl and refl and refl and refl and refl
-    and (record { refusal-is = refl; lo-is = refl; hi-is = refl; edge-is = inl refl })
-    and (record { refusal-is = refl; lo-is = refl; hi-is = refl; edge-is = inl refl })
-    and (record { refusal-is = refl; lo-is = refl; hi-is = refl; edge-is = inl refl })
-    and (record { refusal-is = refl; lo-is = refl; hi-is = refl; edge-is = inl refl })
-    and (λ h. one (h .refusal-is))
-    and (λ h. unequal (pos 4352) (pos 3328) tt (h .lo-is))
-    and (λ h. unequal (pos 4353) (pos 4352) tt (h .hi-is))
-    and (λ h. elim (h .edge-is) [ inl e ↦ unequal (pos 10496) (pos 4352) tt e | inr z ↦ z ])
-    and (λ h. one (h .edge-is))
-    and (record { refusal-is = refl; lo-is = refl; hi-is = refl; edge-is = refl })
-    and (record { refusal-is = refl; lo-is = refl; hi-is = refl; edge-is = refl })
-    and (record { refusal-is = refl; lo-is = refl; hi-is = refl; edge-is = refl })
+    and refl and refl and refl and refl and refl and refl and refl
     and tt
 
 pub printing-holds : AllHold Holds printFigures

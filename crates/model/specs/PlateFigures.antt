@@ -21,7 +21,7 @@ use Rattle.model.specs.Store.{forest}
 use Rattle.model.specs.Roots.{rootBy, root}
 use Rattle.model.specs.Explore.{Cell, Answer, inside, away, maybe, isInside, isAway₁, isAway₂, byTests, judged, join, explore, exploreAll}
 use Rattle.model.specs.Plates.{Verdict, clear, within, doubtful, mixed, letter, drawn, mapped, mapOf}
-use Rattle.model.specs.Distance.{leaves, leavesAll, leavesAt, least, lo, hi, Attains}
+use Rattle.model.specs.Distance.{leaves, leavesAll, leavesAt, least, lo, hi, firstAt, named, Attains}
 use Rattle.model.specs.FigureTables.{AllHold, _and_, unequal, side, stripOf, mixedJob, job}
 
 pub data Figure : Type 0 where
@@ -49,9 +49,11 @@ pub data Figure : Type 0 where
   least-of : List ℤ → ℤ → Figure
   -- the bounds of a point's distance
   bounds : Job → ℤ → ℤ → ℤ → ℤ → Figure
-  -- an edge that may be named, and one that may not
-  named : Job → ℤ → ℤ → ℕ → Figure
-  not-named : Job → ℤ → ℤ → ℕ → Figure
+  -- an edge with a leaf that attains the greater bound, and one without
+  attains : Job → ℤ → ℤ → ℕ → Figure
+  not-attains : Job → ℤ → ℤ → ℕ → Figure
+  -- the edge that is named
+  names : Job → ℤ → ℤ → ℕ → Figure
 
 -- ---- shorthands
 abbrev pub cell : ℤ → ℤ → ℤ → Cell
@@ -87,8 +89,9 @@ Holds (mapped-at j i k v) = mapped j i k ≡ v
 Holds (ends ts cs) = leavesAll ts ≡ strips cs
 Holds (least-of cs c) = least (λ S. S .x .centre) (strips cs) ≡ c
 Holds (bounds j x y l h) = (lo (forest j) x y ≡ l) × (hi (forest j) x y ≡ h)
-Holds (named j x y e) = Attains (forest j) x y e
-Holds (not-named j x y e) = Attains (forest j) x y e → ⊥
+Holds (attains j x y e) = Attains (forest j) x y e
+Holds (not-attains j x y e) = Attains (forest j) x y e → ⊥
+Holds (names j x y e) = named (forest j) x y ≡ e
 
 abbrev pub I : Tree
 I = leaf (at (pos 0))
@@ -226,27 +229,32 @@ plateFigures =
     ∷ least-of (pos 4 ∷ pos 5 ∷ pos 6 ∷ []) (pos 4)
     ∷ least-of (pos 5 ∷ pos 4 ∷ pos 6 ∷ []) (pos 4)
     ∷ least-of (pos 5 ∷ pos 6 ∷ negsuc 3 ∷ []) (negsuc 3)
-    -- the nearer of two edges, and either where both are as near
+    -- the nearer of two edges; where both are as near the first is named
     ∷ bounds two (pos 3) (pos 4) (pos 6400) (pos 6400)
-    ∷ named two (pos 3) (pos 4) 0
-    ∷ not-named two (pos 3) (pos 4) 1
+    ∷ attains two (pos 3) (pos 4) 0
+    ∷ not-attains two (pos 3) (pos 4) 1
+    ∷ names two (pos 3) (pos 4) 0
     ∷ bounds two (pos 9) (pos 9) (pos 1280) (pos 1280)
-    ∷ not-named two (pos 9) (pos 9) 0
-    ∷ named two (pos 9) (pos 9) 1
-    ∷ not-named two (pos 9) (pos 9) 2
-    ∷ named level (pos 5) (pos 0) 0
-    ∷ named level (pos 5) (pos 0) 1
+    ∷ not-attains two (pos 9) (pos 9) 0
+    ∷ attains two (pos 9) (pos 9) 1
+    ∷ not-attains two (pos 9) (pos 9) 2
+    ∷ names two (pos 9) (pos 9) 1
+    ∷ attains level (pos 5) (pos 0) 0
+    ∷ attains level (pos 5) (pos 0) 1
+    ∷ names level (pos 5) (pos 0) 0
     -- the halves count, and not the whole
     ∷ bounds slanted (pos 9) (pos 18) (pos 100) (pos 2677)
     ∷ bounds slanted (pos 14) (pos 16) (pos 100) (pos 8149)
     ∷ bounds slanted (pos 9) (pos 16) (pos 0) (pos 1205)
     -- the first leaf is the closest one, and the second alone attains the greater bound
     ∷ bounds bowed (pos 11) (pos 13) (pos 3844) (pos 21124)
-    ∷ named bowed (pos 11) (pos 13) 0
+    ∷ attains bowed (pos 11) (pos 13) 0
+    ∷ names bowed (pos 11) (pos 13) 0
     -- the edge that attains the greater bound, and not the one that attains the lesser
     ∷ bounds both (pos 9) (pos 11) (pos 3349) (pos 4352)
-    ∷ named both (pos 9) (pos 11) 0
-    ∷ not-named both (pos 9) (pos 11) 1
+    ∷ attains both (pos 9) (pos 11) 0
+    ∷ not-attains both (pos 9) (pos 11) 1
+    ∷ names both (pos 9) (pos 11) 0
     ∷ []
 
 -- ---- the statements
@@ -269,11 +277,13 @@ exploring-holds =
     and tt
 
 pub plates-hold : AllHold Holds plateFigures
-unfolding same mapOf mapped rowMajor table drawn exploreAll explore isInside isAway₁ isAway₂ absℤ root rootBy strip curved straight sideAt tree pieces forest outline edgesFrom isZero leaves leavesAll leavesAt least
+unfolding same mapOf mapped rowMajor table drawn exploreAll explore isInside isAway₁ isAway₂ absℤ root rootBy strip curved straight sideAt tree pieces forest outline edgesFrom isZero leaves leavesAll leavesAt least firstAt
 plates-hold =
     refl and refl and refl and refl and refl and refl and refl and refl and refl and refl and refl and refl and refl and refl and refl and refl and refl and refl and refl
-    and (refl, refl) and inl refl and apart (pos 14848) (pos 6400) tt and (refl, refl) and apart (pos 41472) (pos 1280) tt and inl refl and (λ h. h) and inl refl and inl refl
+    and (refl, refl) and inl refl and apart (pos 14848) (pos 6400) tt and refl
+    and (refl, refl) and apart (pos 41472) (pos 1280) tt and inl refl and (λ h. h) and refl
+    and inl refl and inl refl and refl
     and (refl, refl) and (refl, refl) and (refl, refl)
-    and (refl, refl) and inr (inl refl)
-    and (refl, refl) and inl refl and (λ h. elim h [ inl e ↦ apart (pos 8381) (pos 4352) tt (inl e) | inr k ↦ apart (pos 36941) (pos 4352) tt k ])
+    and (refl, refl) and inr (inl refl) and refl
+    and (refl, refl) and inl refl and (λ h. elim h [ inl e ↦ apart (pos 8381) (pos 4352) tt (inl e) | inr k ↦ apart (pos 36941) (pos 4352) tt k ]) and refl
     and tt

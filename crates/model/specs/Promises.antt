@@ -10,7 +10,6 @@ use lib.ListN.{length, getD, take}
 use Rattle.basics.specs.Orders.{_≼_, num⁺}
 use Rattle.model.specs.declared.Job.{Job}
 use Rattle.model.specs.declared.Read.{Read}
-use Rattle.model.specs.declared.Nearest.{Nearest}
 use Rattle.model.specs.Refusals.{Refusal}
 use Rattle.model.specs.Jobs.{coordinate, outline, cellLog, judge}
 use Rattle.model.specs.Bytes.{bytes}
@@ -22,9 +21,9 @@ use Rattle.model.specs.Store.{forest, nodesOf}
 use Rattle.model.specs.Fractions.{Frac, whole, Point, dist², _≤ᶠ_}
 use Rattle.model.specs.Plates.{Verdict, letter, columns, cellsOf, mapOf}
 use Rattle.model.specs.Exact.{Points, Outline, CellPoint, Clear, Inside, Exact, R-E, R+E, NoCloser, SomeNear, Demand3}
-use Rattle.model.specs.Distance.{leaves, lo, hi, Attains}
+use Rattle.model.specs.Distance.{leaves, lo, hi, named, Attains}
 use Rattle.model.specs.Lookup.{State, lookup}
-use Rattle.model.specs.Entries.{read, writeRefusal, write, writeLeaves, mapRefusal, map, mapCells, pointRefusal, IsNearest}
+use Rattle.model.specs.Entries.{read, writeRefusal, write, writeLeaves, mapRefusal, map, mapCells, pointRefusal, point}
 use Rattle.model.specs.Printing.{printed}
 use Rattle.model.specs.Cases.{ReadApplies, WriteApplies, MapApplies, PointApplies, Lowest}
 
@@ -46,7 +45,7 @@ abbrev pub MapLowest : Type 0
 MapLowest = (j : Job) (store : List ℤ) (cells : List ℕ) → Lowest (MapApplies j store cells) (map j store cells .refusal)
 
 abbrev pub PointLowest : Type 0
-PointLowest = (j : Job) (x y : ℤ) (store : List ℤ) (r : Nearest) → IsNearest j x y store r → Lowest (PointApplies j x y store) (r .refusal)
+PointLowest = (j : Job) (x y : ℤ) (store : List ℤ) → Lowest (PointApplies j x y store) (point j x y store .refusal)
 
 -- and that is one number
 abbrev pub LowestOne : Type 1
@@ -166,7 +165,24 @@ PointBounds = (j : Job) → judge j ≡ 0 → (x y : ℤ) → Bounds j (wholePoi
 
 -- what an accepted answer for a point bounds
 abbrev pub PointTrue : Type 0
-PointTrue = (j : Job) (x y : ℤ) (store : List ℤ) (r : Nearest) → IsNearest j x y store r → r .refusal ≡ 0 → Bounds j (wholePoint x y) (r .lo) (r .hi)
+PointTrue = (j : Job) (x y : ℤ) (store : List ℤ) → point j x y store .refusal ≡ 0 → Bounds j (wholePoint x y) (point j x y store .lo) (point j x y store .hi)
+
+-- ---- the edge named with a point is one of the job's, of its leaves one attains hi, and of no earlier edge's one does
+pub record FirstEdge (j : Job) (x y : ℤ) (e : ℕ) : Type 0 where
+  pub there : e < j .count
+  pub attains : Attains (forest j) x y e
+  pub first : (k : ℕ) → k < e → Attains (forest j) x y k → ⊥
+
+abbrev pub NamedFirst : Type 0
+NamedFirst = (j : Job) → judge j ≡ 0 → (x y : ℤ) → FirstEdge j x y (named (forest j) x y)
+
+-- and that is one edge
+abbrev pub FirstOne : Type 0
+FirstOne = (j : Job) (x y : ℤ) (d e : ℕ) → FirstEdge j x y d → FirstEdge j x y e → d ≡ e
+
+-- so it is of the edge in an accepted answer for a point
+abbrev pub PointFirst : Type 0
+PointFirst = (j : Job) (x y : ℤ) (store : List ℤ) → point j x y store .refusal ≡ 0 → FirstEdge j x y (point j x y store .edge)
 
 -- ---- the box of a tree holds the upright box of each of its leaves, and lies in every box that does
 pub record Within (a b : Box) : Type 0 where
@@ -182,12 +198,11 @@ Every P (s ∷ ss) = P s × Every P ss
 abbrev pub BoxSmallest : Type 0
 BoxSmallest = (t : Tree) → Every (λ s. Within (upright s) (boxOf t)) (leaves t) × ((b : Box) → Every (λ s. Within (upright s) b) (leaves t) → Within (boxOf t) b)
 
--- ---- a lookup that skips gives the bounds over all leaves, and of the edges that may be named the first
+-- ---- a lookup that skips gives the bounds over all leaves and the edge named
 pub record FoundBy (ts : List Tree) (x y : ℤ) (r : State) : Type 0 where
   pub lo-is : r .lo ≡ lo ts x y
   pub hi-is : r .hi ≡ hi ts x y
-  pub attains : Attains ts x y (r .edge)
-  pub first : (e : ℕ) → e < r .edge → Attains ts x y e → ⊥
+  pub edge-is : r .edge ≡ named ts x y
 
 abbrev pub LookupTrue : Type 0
 LookupTrue = (j : Job) → judge j ≡ 0 → (x y : ℤ) → coordinate x ≡ true → coordinate y ≡ true → FoundBy (forest j) x y (lookup (forest j) x y)
