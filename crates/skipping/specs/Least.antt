@@ -1,7 +1,7 @@
--- Laws of the least value over a list of strips: of two lists together, and that some strip attains it. Assumes nothing.
+-- Laws of the least value over a list of strips: of two lists together, that some strip attains it, and of the leaves of trees. Assumes nothing.
 use mathlib.Core.Path.{_≡_, refl, ap, _∙_}
 use mathlib.Core.Bool.{Bool, true, false, cond}
-use mathlib.Core.List.{List, [], _∷_, _++_}
+use mathlib.Core.List.{List, [], _∷_, _++_, append-nil}
 use mathlib.Core.Logic.{inl, inr, ⊎-elim}
 use Prim.Native.Nat.{ℕ, zero, suc, _≤_, _<_}
 use native.Mathlib.Omega.{arith}
@@ -56,6 +56,20 @@ leaf-there (node s l r) = omega (arith, length-append (leaves l) (leaves r), lea
 pub leaves-there : (t : Tree) (us : List Tree) → 1 ≤ length (leavesAll (t ∷ us))
 unfolding leavesAll
 leaves-there t us = omega (arith, length-append (leaves t) (leavesAll us), leaf-there t)
+
+-- ---- the least value over one tree's leaves, and over one tree's and those of more
+module _ (f : Strip → ℤ) where
+  pub least-one : (t : Tree) → least f (leavesAll (t ∷ [])) ≡ least f (leaves t)
+  unfolding leavesAll
+  least-one t = ap (least f) (append-nil (leaves t))
+
+  pub least-more : (t u : Tree) (us : List Tree) → least f (leavesAll (t ∷ u ∷ us)) ≡ lesser (least f (leaves t)) (least f (leavesAll (u ∷ us)))
+  unfolding leavesAll
+  least-more t u us = least-append f (leaves t) (leavesAll (u ∷ us)) (leaf-there t) (leaves-there u us)
+
+  pub no-more : (t : Tree) (us : List Tree) → least f (leavesAll (t ∷ us)) ≼ least f (leaves t)
+  no-more t [] = ≼-refl (least-one t)
+  no-more t (u ∷ us) = ≼-trans (≼-refl (least-more t u us)) (lesser-≼ (least f (leaves t)) (least f (leavesAll (u ∷ us))) .0)
 
 -- an edge of which some leaf has a property is there
 pub some-below : (P : Strip → Type 0) (ts : List Tree) (e : ℕ) → Some P (leavesAt ts e) → e < length ts

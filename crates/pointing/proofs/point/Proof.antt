@@ -1,5 +1,5 @@
 -- Each return is one of the answers of `Found`. Assumes nothing.
-use mathlib.Core.Path.{_≡_, refl, sym, ap, _∙_, subst}
+use mathlib.Core.Path.{_≡_, refl, sym, ap, _∙_}
 use mathlib.Core.Bool.{true}
 use borrow.Author.Needs.{needs}
 use lib.ListN.{length}
@@ -10,7 +10,6 @@ use Rattle.integers.specs.Signed.{fits32, read64}
 use Rattle.model.specs.Refusals.{check, first, stranger}
 use Rattle.model.specs.Jobs.{outline}
 use Rattle.model.specs.Store.{forest, storeOf, begins}
-use Rattle.model.specs.Distance.{Attains}
 use Rattle.model.specs.Lookup.{State}
 use Rattle.ranges.specs.Jobs.{grain-sized}
 use Rattle.forests.specs.Told.{checksOf, Told, told-of, trees-ready, whole-ready}
@@ -121,7 +120,7 @@ returns-4 c =
     accept (s .args .job) (s .args .x) (s .args .y) (s .args .store .now) _ z refl
     (read64 (f .lo) (c .struct-told2 .given .0 .1) ∙ ap (λ (st : State). st .lo) a ∙ w .lo-is)
     (read64 (f .hi) (c .struct-told2 .given .1 .0 .1) ∙ ap (λ (st : State). st .hi) a ∙ w .hi-is)
-    (subst (Attains (forest (s .args .job)) (s .args .x) (s .args .y)) (sym (ap (λ (st : State). st .edge) a)) (w .attains))
+    (ap (λ (st : State). st .edge) a ∙ w .edge-is)
 
 pub point-spec : {M : Type 1} → statement M
 point-spec =
