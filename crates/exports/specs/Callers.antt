@@ -6,7 +6,7 @@ use Prim.Native.Nat.{ℕ, _*_, _≤_}
 use native.Mathlib.Omega.{arith}
 use lib.Dec.{leb}
 use lib.IntN.{ℤ, pos}
-use lib.ListN.{length, getD, take, drop, length-append, length-drop}
+use lib.ListN.{length, take, drop, length-append, length-drop}
 use lib.Seq.{take-at}
 use borrow.Author.Tests.{le-leb}
 use Rattle.integers.specs.Tests.{le-of}
@@ -16,8 +16,8 @@ use Rattle.model.specs.Refusals.{edges, range, cell, first}
 use Rattle.model.specs.Jobs.{coordinate, counted, ranged, celled}
 use Rattle.model.specs.Sheets.{Sheet, lines, broken, jobOf, readSheet, sheetOf}
 use Rattle.model.specs.Store.{width, forest, nodesOf, storeOf, begins}
-use Rattle.model.specs.Entries.{over, readChecks, read, writeRefusal, write, writeLeaves, mapChecks, mapRefusal, map, mapStore, mapCells, pointChecks, pointRefusal}
-use Rattle.model.specs.Promises.{Kept, MapHolds, Bounds, wholePoint}
+use Rattle.model.specs.Entries.{over, readChecks, read, writeRefusal, write, writeLeaves, mapChecks, mapRefusal, map, mapStore, mapCells, pointChecks, pointRefusal, point}
+use Rattle.model.specs.Promises.{Kept, MapHolds}
 use Rattle.ranges.specs.Refusals.{all-pass, passed-all, accepted-is}
 use Rattle.ranges.specs.Lowest.{read-by}
 use Rattle.subtrees.specs.Preorder.{all-begun}
@@ -27,8 +27,8 @@ use Rattle.clearance.specs.Demands as demands
 use Rattle.clearance.specs.Sheets.{read-whole}
 use Rattle.flat_jobs.specs.FlatJobs.{jobFrom, numbersOf}
 use Rattle.flat_jobs.specs.Rows.{from-whole, row-kept}
-use Rattle.exports.specs.Rows.{readLeaves, bytesLeft, Answered}
-use Rattle.exports.specs.Promises.{ReadNumbers, RowRead, sheetLeft, SheetBack, RowBack, ReadMapPoint}
+use Rattle.exports.specs.Rows.{readLeaves, bytesLeft, numbersLeft}
+use Rattle.exports.specs.Promises.{ReadNumbers, RowRead, sheetLeft, SheetBack, RowBack, Told, ReadMapPoint}
 
 -- ---- reading
 own-four : (a b c : Bool) → first ((edges, a) ∷ (range, b) ∷ (cell, c) ∷ []) ≤ 4
@@ -78,6 +78,11 @@ row-back row other out count h =
     let again = ap (λ (n : ℕ). read (take n (writeLeaves j out))) (count-left j out count h) ∙ write-read j out (from-whole row) h in
     let taken = ap (λ (r : Read). r .refusal) again in (taken, row-job (sheetLeft row out count) other taken ∙ ap (λ (r : Read). r .job) again)
 
+-- ---- the three numbers that an accepted call for a point leaves
+numbers-are : (j : Job) (x y : ℤ) (store old : List ℤ) → point j x y store .refusal ≡ 0 → numbersLeft j x y store old ≡ point j x y store .lo ∷ point j x y store .hi ∷ pos (point j x y store .edge) ∷ []
+unfolding numbersLeft
+numbers-are j x y store old h = accepted-is (point j x y store .refusal) _ old h
+
 -- ---- the store that an accepted map leaves begins with the job's trees, and has room for them
 module _ (j : Job) (store : List ℤ) (cells : List ℕ) (h : mapRefusal j store cells ≡ 0) where
   trees-left : mapStore j store cells ≡ over (storeOf j) store
@@ -99,16 +104,13 @@ module _ (j : Job) (store : List ℤ) (cells : List ℕ) (h : mapRefusal j store
       subst (λ (s : List ℤ). first (pointChecks j x y s) ≡ 0) (sym trees-left)
       (all-pass (pointChecks j x y (over (storeOf j) store)) (p .0, (p .1 .0, (rw (hx, hy), (p .1 .1 .0, (p .1 .1 .1 .0, (room, (begun, tt))))))))
 
-  -- and its numbers are the bounds
-  pub point-drawn : (x y : ℤ) (old : List ℤ) (refusal : ℕ) (numbers : List ℤ) → coordinate x ≡ true → coordinate y ≡ true → Answered j x y (mapStore j store cells) old refusal numbers → (refusal ≡ 0) × Bounds j (wholePoint x y) (getD numbers 0 (pos 0)) (getD numbers 1 (pos 0))
-  point-drawn x y old refusal numbers hx hy a =
-      let n = a .nearest in
-      let z : n .refusal ≡ 0 = a .is-nearest .refusal-is ∙ point-passes x y hx hy in
-      let zero-given : refusal ≡ 0 = a .refusal-is ∙ z in
-      let told : numbers ≡ n .lo ∷ n .hi ∷ pos (n .edge) ∷ [] = a .numbers-are ∙ accepted-is (n .refusal) (n .lo ∷ n .hi ∷ pos (n .edge) ∷ []) old z in (
-        zero-given,
-        subst (λ (vs : List ℤ). Bounds j (wholePoint x y) (getD vs 0 (pos 0)) (getD vs 1 (pos 0))) (sym told) (a .bounds zero-given),
-      )
+  -- and its numbers are the bounds and the first edge
+  pub point-drawn : (x y : ℤ) (old : List ℤ) → coordinate x ≡ true → coordinate y ≡ true → Told j x y (point j x y (mapStore j store cells) .refusal) (numbersLeft j x y (mapStore j store cells) old)
+  point-drawn x y old hx hy =
+      let s : List ℤ = mapStore j store cells in
+      let z : point j x y s .refusal ≡ 0 = unfold point in point-passes x y hx hy in
+      rw (numbers-are j x y s old z)
+      (record { given = z; bounds = demands.point-holds j x y s z; edge = point j x y s .edge; edge-is = refl; first = demands.point-first j x y s z })
 
 -- ---- read, map, point
 pub read-map-point : ReadMapPoint
@@ -118,7 +120,7 @@ read-map-point sheet row store cells h k =
     let z : mapRefusal j store cells ≡ 0 = unfold map in k in
     record {
       map-holds = subst (λ (i : Job). MapHolds i (mapCells j store cells)) e (demands.map-holds j store cells k);
-      answered = λ x y old refusal numbers hx hy a.
-          let p = point-drawn j store cells z x y old refusal numbers hx hy a in
-          (p .0, subst (λ (i : Job). Bounds i (wholePoint x y) (getD numbers 0 (pos 0)) (getD numbers 1 (pos 0))) e (p .1));
+      answered = λ x y old hx hy.
+          subst (λ (i : Job). Told i x y (point j x y (mapStore j store cells) .refusal) (numbersLeft j x y (mapStore j store cells) old)) e
+          (point-drawn j store cells z x y old hx hy);
     }

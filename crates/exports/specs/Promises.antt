@@ -6,11 +6,12 @@ use mathlib.Core.List.{List, _++_}
 use Prim.Native.Nat.{ℕ, _≤_}
 use lib.IntN.{ℤ, pos}
 use lib.ListN.{getD, take}
+use Rattle.model.specs.declared.Job.{Job}
 use Rattle.model.specs.Jobs.{coordinate}
-use Rattle.model.specs.Entries.{read, write, writeLeaves, map, mapStore, mapCells}
-use Rattle.model.specs.Promises.{Kept, MapHolds, Bounds, wholePoint}
+use Rattle.model.specs.Entries.{read, write, writeLeaves, map, mapStore, mapCells, point}
+use Rattle.model.specs.Promises.{Kept, MapHolds, Bounds, wholePoint, FirstEdge}
 use Rattle.flat_jobs.specs.FlatJobs.{jobFrom}
-use Rattle.exports.specs.Rows.{readLeaves, bytesLeft, Answered}
+use Rattle.exports.specs.Rows.{readLeaves, bytesLeft, numbersLeft}
 
 -- a sheet is accepted, or refused with 1 to 4
 abbrev pub ReadNumbers : Type 0
@@ -34,11 +35,19 @@ abbrev pub RowBack : Type 0
 RowBack = (row other : List ℤ) (out : List ℕ) (count : ℕ) → write (jobFrom row) out .refusal ≡ 0 → (read (sheetLeft row out count) .refusal ≡ 0) × (jobFrom (readLeaves (sheetLeft row out count) other) ≡ jobFrom row)
 
 -- ---- read, map, point
+-- what an accepted call for a point tells by its refusal and its three numbers: bounds of the distance, and the first edge that gives the upper one
+pub record Told (j : Job) (x y : ℤ) (refusal : ℕ) (numbers : List ℤ) : Type 0 where
+  pub given : refusal ≡ 0
+  pub bounds : Bounds j (wholePoint x y) (getD numbers 0 (pos 0)) (getD numbers 1 (pos 0))
+  pub edge : ℕ
+  pub edge-is : getD numbers 2 (pos 0) ≡ pos edge
+  pub first : FirstEdge j x y edge
+
 -- of a sheet that was read and the row then drawn, both accepted: demand 3 holds of the map for the job that was read; and asked with the
--- store that drawing left, each point in range has an answer, which bounds its distance from that job's outline
+-- store that drawing left, each point in range has an answer, which tells of that job's outline
 pub record DrawnFrom (sheet : List ℕ) (row store : List ℤ) (cells : List ℕ) : Type 0 where
   pub map-holds : MapHolds (read sheet .job) (mapCells (jobFrom (readLeaves sheet row)) store cells)
-  pub answered : (x y : ℤ) (old : List ℤ) (refusal : ℕ) (numbers : List ℤ) → coordinate x ≡ true → coordinate y ≡ true → Answered (jobFrom (readLeaves sheet row)) x y (mapStore (jobFrom (readLeaves sheet row)) store cells) old refusal numbers → (refusal ≡ 0) × Bounds (read sheet .job) (wholePoint x y) (getD numbers 0 (pos 0)) (getD numbers 1 (pos 0))
+  pub answered : (x y : ℤ) (old : List ℤ) → coordinate x ≡ true → coordinate y ≡ true → Told (read sheet .job) x y (point (jobFrom (readLeaves sheet row)) x y (mapStore (jobFrom (readLeaves sheet row)) store cells) .refusal) (numbersLeft (jobFrom (readLeaves sheet row)) x y (mapStore (jobFrom (readLeaves sheet row)) store cells) old)
 
 abbrev pub ReadMapPoint : Type 0
 ReadMapPoint = (sheet : List ℕ) (row store : List ℤ) (cells : List ℕ) → read sheet .refusal ≡ 0 → map (jobFrom (readLeaves sheet row)) store cells .refusal ≡ 0 → DrawnFrom sheet row store cells

@@ -6,10 +6,11 @@ use flat_jobs::NUMBERS;
 ghost use mathlib.Core.Path.{_≡_};
 ghost use Prim.Native.Nat.{_<_};
 ghost use lib.IntN.{pos};
+ghost use lib.ListN.{getD};
 ghost use Rattle.model.specs.Entries as entries;
-ghost use Rattle.model.specs.Promises.{MapHolds};
+ghost use Rattle.model.specs.Promises.{MapHolds, Bounds, wholePoint};
 ghost use Rattle.flat_jobs.specs.FlatJobs.{jobFrom};
-ghost use Rattle.exports.specs.Rows.{readLeaves, bytesLeft, nodesLeft, Answered};
+ghost use Rattle.exports.specs.Rows.{readLeaves, bytesLeft, nodesLeft, numbersLeft};
 
 // Reads a sheet into `job`: 0, or the sheet's refusal 1, 2, 3 or 4.
 #[no_mangle]
@@ -74,8 +75,8 @@ fn edge_number(edge: usize) -> i64
     edge as i64
 }
 
-// Bounds a point's squared distance from a job's outline: 0 and the two bounds with an edge that attains the upper one, or the refusal 2, 3,
-// 4, 5, 6 or 8.
+// Bounds a point's squared distance from a job's outline: 0 and the two bounds with the first edge that attains the upper one, or the refusal 2,
+// 3, 4, 5, 6 or 8.
 #[no_mangle]
 pub extern "C" fn clearance_point(
     job: &[i32],
@@ -84,7 +85,9 @@ pub extern "C" fn clearance_point(
     store: &[i32],
     nearest: &mut [i64; 3],
 ) -> u8
-    ensures answer { λ r. ⌜ Answered (jobFrom (now (job .entry))) x y (now (store .entry)) (now (nearest .entry)) r (now (nearest .exit)) ⌝ }
+    ensures refusal { λ r. ⌜ r ≡ entries.point (jobFrom (now (job .entry))) x y (now (store .entry)) .refusal ⌝ }
+    ensures numbers { λ _. ⌜ now (nearest .exit) ≡ numbersLeft (jobFrom (now (job .entry))) x y (now (store .entry)) (now (nearest .entry)) ⌝ }
+    ensures bounds { λ r. ⌜ (r ≡ 0 → Bounds (jobFrom (now (job .entry))) (wholePoint x y) (getD (now (nearest .exit)) 0 (pos 0)) (getD (now (nearest .exit)) 1 (pos 0))) ⌝ }
 {
     let given = flat_jobs::job_from(job);
     let found = clearance::point(given, x, y, store);

@@ -8,7 +8,7 @@ use Rattle.model.specs.declared.Job.{Job}
 use Rattle.model.specs.Refusals.{check, stranger}
 use Rattle.model.specs.Jobs.{coordinate, own, judge}
 use Rattle.model.specs.Store.{forest, storeOf, begins}
-use Rattle.model.specs.Entries.{treesChecks, spotCheck, pointRefusal}
+use Rattle.model.specs.Entries.{treesChecks, spotCheck, pointRefusal, point}
 use Rattle.ranges.specs.Refusals.{all-pass, passed-all, each-passed}
 use Rattle.ranges.specs.Legal.{coordinate-true, coordinate-size, legal}
 use Rattle.ranges.specs.Jobs.{forest-sized}
@@ -21,8 +21,8 @@ pub record Asked (j : Job) (x y : ℤ) (store : List ℤ) : Type 0 where
   pub y-in : natAbs y ≤ 1000000
   pub trees : TreesOf store (j .count)
 
-pub asked : (j : Job) (x y : ℤ) (store : List ℤ) → pointRefusal j x y store ≡ 0 → Asked j x y store
-unfolding pointRefusal judge
+pub asked : (j : Job) (x y : ℤ) (store : List ℤ) → point j x y store .refusal ≡ 0 → Asked j x y store
+unfolding point pointRefusal judge
 asked j x y store e =
     let last = check stranger (begins store (storeOf j)) in
     let h = each-passed (own j (spotCheck x y)) (treesChecks j store ++ last) e in

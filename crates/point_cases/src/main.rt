@@ -6,8 +6,9 @@ use model::Job;
 use model::Nearest;
 use nodes::LEAST;
 use nodes::WIDTH;
+ghost use mathlib.Core.Path.{_≡_};
 ghost use Prim.Native.Nat.{_≤_};
-ghost use Rattle.model.specs.Entries.{IsNearest};
+ghost use Rattle.model.specs.Entries as entries;
 
 // A bound as io prints it. No bound is negative; a negative one would show as a number that no bound reaches.
 fn printable(bound: i64) -> u64 {
@@ -21,7 +22,7 @@ fn show_number(before: &[u8], n: u64) {
 
 // Shows an answer to a question, with the nodes that a lookup of it reads, and nothing else.
 fn show_nearest(near: Nearest, job: Job, x: i32, y: i32, store: &[i32])
-    requires answer { ⌜ IsNearest job x y (now store) near ⌝ }
+    requires answer { ⌜ near ≡ entries.point job x y (now store) ⌝ }
 {
     let refusal = near.refusal;
     if refusal != 0 {

@@ -1,7 +1,9 @@
+use mathlib.Core.Path.{sym, subst}
 use Prim.Native.Nat.{_<_, _^_}
 use native.Mathlib.Omega.{arith}
 use lib.Signed.{mag}
-use Rattle.exports.specs.Counts.{nearest-few}
+use Rattle.model.specs.declared.Nearest.{Nearest}
+use Rattle.exports.specs.Counts.{edge-few}
 use Rattle.exports.proofs.Calls as steps
 use borrow.Author.Needs.{needs}
 use Rattle.exports.proofs.clearance_point.Statement.{statement}
@@ -20,13 +22,13 @@ returns c =
     let p = c .before .point in
     let x : mag (s .args .x) < 2 ^ 31 = search needs in
     let y : mag (s .args .y) < 2 ^ 31 = search needs in
-    steps.not-answered (s .args .job .now) (j .result) (j .ensures) (s .args .x) (s .args .y) (s .args .store .now) (s .args .nearest .now) (p .result) x y (p .ensures .0) (p .ensures .1) (c .if1 .taken)
+    steps.not-answered (s .args .job .now) (j .result) (j .ensures) (s .args .x) (s .args .y) (s .args .store .now) (s .args .nearest .now) (p .result) x y (p .ensures .0) (c .if1 .taken)
 
 edge-number-requires : tie.Need-edge-number-requires
 edge-number-requires c κs =
     let s = c .before .before .before .before .before in
     let p = c .before .before .before .point in
-    nearest-few (c .before .before .before .before .job-from .result) _ _ (s .args .store .now) (p .result) (p .ensures .0)
+    subst (λ (q : Nearest). q .edge < 64) (sym (p .ensures .0)) (edge-few (c .before .before .before .before .job-from .result) _ _ (s .args .store .now))
 
 returns-2 : tie.Need-returns-2
 returns-2 c =
@@ -38,7 +40,7 @@ returns-2 c =
     let n = c .before .edge-number in
     let lo : mag (p .result .lo) < 2 ^ 63 = search needs in
     let hi : mag (p .result .hi) < 2 ^ 63 = search needs in
-    steps.answered (s .args .job .now) (j .result) (j .ensures) (s .args .x) (s .args .y) (s .args .store .now) (s .args .nearest .now) (p .result) x y (p .ensures .0) (p .ensures .1) (n .result) lo hi (n .ok) (n .ensures) (omega (arith, c .before .before .before .before .if1 .left))
+    steps.answered (s .args .job .now) (j .result) (j .ensures) (s .args .x) (s .args .y) (s .args .store .now) (s .args .nearest .now) (p .result) x y (p .ensures .0) (n .result) lo hi (n .ok) (n .ensures) (omega (arith, c .before .before .before .before .if1 .left))
 
 pub clearance-point-spec : {M : Type 1} → statement M
 clearance-point-spec = tie.close (tie.spec job-from-requires point-requires returns edge-number-requires returns-2)

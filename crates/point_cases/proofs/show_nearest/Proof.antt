@@ -1,6 +1,7 @@
 -- An accepted question has what the lookup asks for; the rest is shown as it comes. Assumes nothing.
-use mathlib.Core.Path.{sym, _∙_}
+use mathlib.Core.Path.{sym, ap, _∙_}
 use mir.Facts.{toZ-ofZ}
+use Rattle.model.specs.declared.Nearest.{Nearest}
 use Rattle.point_cases.proofs.Asked.{asked}
 use borrow.Author.Needs.{needs}
 use Rattle.point_cases.proofs.show_nearest.Statement.{statement}
@@ -40,7 +41,7 @@ nearest-requires : tie.Need-nearest-requires
 nearest-requires c κs =
     let e = c .before .before .before .before .before .before .before .before .before .before in
     let s = e .before in
-    let a = asked (s .args .job) (s .args .x) (s .args .y) (s .args .store .now) (sym (s .pre .refusal-is) ∙ e .if1 .left) in
+    let a = asked (s .args .job) (s .args .x) (s .args .y) (s .args .store .now) (sym (ap (λ (n : Nearest). n .refusal) (s .pre)) ∙ e .if1 .left) in
     rw (toZ-ofZ (s .fits .x), toZ-ofZ (s .fits .y)) (a .trees, a .x-in, a .y-in)
 
 slice-aggregate-show-number-4 : tie.Need-slice-aggregate-show-number-4
