@@ -148,7 +148,8 @@ enum {
     CLEARANCE_LO = 0,
     /* Some point of the outline is within this; squared fine units. */
     CLEARANCE_HI = 1,
-    /* An edge, from 0, with a leaf that gives the bound hi. */
+    /* The first edge, in the order of the job and from 0, with a leaf that gives
+     * the bound hi (theorem point-first). */
     CLEARANCE_EDGE = 2,
     /* How many numbers there are. */
     CLEARANCE_NEAREST_NUMBERS = 3

@@ -51,7 +51,7 @@ extern "C" {
         nodes: *mut usize,
     ) -> u8;
 
-    /// Bounds a point's distance: lo, hi and the edge. A refused call writes
+    /// Bounds a point's distance: lo, hi and the first edge that gives hi. A refused call writes
     /// nothing.
     ///
     /// # Safety

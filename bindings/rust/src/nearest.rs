@@ -8,6 +8,7 @@ pub struct Nearest {
     pub lo: i64,
     /// Some point of the outline is within this.
     pub hi: i64,
-    /// An edge, from 0, one of whose leaves gives `hi`.
+    /// The first edge, in the order of the job and from 0, one of whose leaves
+    /// gives `hi` (theorem `point-first`).
     pub edge: usize,
 }

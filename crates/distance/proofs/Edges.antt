@@ -22,8 +22,14 @@ module _ (p : Cell) (store : List ℤ) (count : ℕ) (ts : List Tree) where
     pub left : visitAll p 0 ts start ≡ visitAll p e others st
     pub few : width * st .reads ≤ at
 
-  pub begin : Holds store count ts → Sofar start 0 0
-  begin h = record { others = ts; ahead = record { begins = h .begins; sized = h .sized }; many = omega (arith, h .many); left = refl; few = omega arith }
+  pub begin : {at e : ℕ} → at ≡ 0 → e ≡ 0 → Holds store count ts → Sofar start at e
+  begin {at} {e} i j h = record {
+    others = ts;
+    ahead = subst (λ (k : ℕ). Ahead store k ts) (sym i) (record { begins = h .begins; sized = h .sized });
+    many = omega (arith, j, h .many);
+    left = ap (λ (k : ℕ). visitAll p k ts start) (sym j);
+    few = omega arith;
+  }
 
   pub end : {st : State} {at e : ℕ} → Sofar st at e → count ≤ e → st ≡ visitAll p 0 ts start
   unfolding visitAll

@@ -5,13 +5,13 @@ use mathlib.Core.Bool.{true}
 use mathlib.Core.List.{List, _++_}
 use Prim.Native.Nat.{ℕ, _≤_}
 use lib.IntN.{ℤ, pos}
-use lib.ListN.{getD, take}
+use lib.ListN.{take}
 use Rattle.model.specs.declared.Job.{Job}
 use Rattle.model.specs.Jobs.{coordinate}
 use Rattle.model.specs.Entries.{read, write, writeLeaves, map, mapStore, mapCells, point}
 use Rattle.model.specs.Promises.{Kept, MapHolds, Bounds, wholePoint, FirstEdge}
 use Rattle.flat_jobs.specs.FlatJobs.{jobFrom}
-use Rattle.exports.specs.Rows.{readLeaves, bytesLeft, numbersLeft}
+use Rattle.exports.specs.Rows.{readLeaves, bytesLeft, loIn, hiIn, edgeIn, numbersLeft}
 
 -- a sheet is accepted, or refused with 1 to 4
 abbrev pub ReadNumbers : Type 0
@@ -38,9 +38,9 @@ RowBack = (row other : List ℤ) (out : List ℕ) (count : ℕ) → write (jobFr
 -- what an accepted call for a point tells by its refusal and its three numbers: bounds of the distance, and the first edge that gives the upper one
 pub record Told (j : Job) (x y : ℤ) (refusal : ℕ) (numbers : List ℤ) : Type 0 where
   pub given : refusal ≡ 0
-  pub bounds : Bounds j (wholePoint x y) (getD numbers 0 (pos 0)) (getD numbers 1 (pos 0))
+  pub bounds : Bounds j (wholePoint x y) (loIn numbers) (hiIn numbers)
   pub edge : ℕ
-  pub edge-is : getD numbers 2 (pos 0) ≡ pos edge
+  pub edge-is : edgeIn numbers ≡ pos edge
   pub first : FirstEdge j x y edge
 
 -- of a sheet that was read and the row then drawn, both accepted: demand 3 holds of the map for the job that was read; and asked with the

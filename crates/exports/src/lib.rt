@@ -6,11 +6,10 @@ use flat_jobs::NUMBERS;
 ghost use mathlib.Core.Path.{_≡_};
 ghost use Prim.Native.Nat.{_<_};
 ghost use lib.IntN.{pos};
-ghost use lib.ListN.{getD};
 ghost use Rattle.model.specs.Entries as entries;
 ghost use Rattle.model.specs.Promises.{MapHolds, Bounds, wholePoint};
 ghost use Rattle.flat_jobs.specs.FlatJobs.{jobFrom};
-ghost use Rattle.exports.specs.Rows.{readLeaves, bytesLeft, nodesLeft, numbersLeft};
+ghost use Rattle.exports.specs.Rows.{readLeaves, bytesLeft, nodesLeft, loIn, hiIn, numbersLeft};
 
 // Reads a sheet into `job`: 0, or the sheet's refusal 1, 2, 3 or 4.
 #[no_mangle]
@@ -87,7 +86,7 @@ pub extern "C" fn clearance_point(
 ) -> u8
     ensures refusal { λ r. ⌜ r ≡ entries.point (jobFrom (now (job .entry))) x y (now (store .entry)) .refusal ⌝ }
     ensures numbers { λ _. ⌜ now (nearest .exit) ≡ numbersLeft (jobFrom (now (job .entry))) x y (now (store .entry)) (now (nearest .entry)) ⌝ }
-    ensures bounds { λ r. ⌜ (r ≡ 0 → Bounds (jobFrom (now (job .entry))) (wholePoint x y) (getD (now (nearest .exit)) 0 (pos 0)) (getD (now (nearest .exit)) 1 (pos 0))) ⌝ }
+    ensures bounds { λ r. ⌜ (r ≡ 0 → Bounds (jobFrom (now (job .entry))) (wholePoint x y) (loIn (now (nearest .exit))) (hiIn (now (nearest .exit)))) ⌝ }
 {
     let given = flat_jobs::job_from(job);
     let found = clearance::point(given, x, y, store);

@@ -46,7 +46,7 @@ module _ (z : ℤ) (h : natAbs z ≤ 1000000) (f : SFits w32 z) where
   fine-size = rw (fine-is, toZ-ofZ f) sixteen
 
 loop-holds : tie.Need-loop-holds Inv-loop μ-loop
-loop-holds c = λ ts h. edges.begin (fine (ofZ w32 (c .args .x)) (ofZ w32 (c .args .y))) (c .args .store .now) (c .args .count) ts h
+loop-holds c = λ ts h. edges.begin (fine (ofZ w32 (c .args .x)) (ofZ w32 (c .args .y))) (c .args .store .now) (c .args .count) ts (omega arith) (omega arith) h
 
 -- ---- the edge at hand
 module _ (c : tie.In-loop Inv-loop μ-loop) where

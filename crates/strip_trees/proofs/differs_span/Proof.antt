@@ -2,7 +2,8 @@
 use mathlib.Core.Path.{_≡_, sym, ap, _∙_}
 use mathlib.Core.Bool.{Bool}
 use mathlib.Core.List.{List}
-use Prim.Native.Nat.{_+_, _<_, _^_}
+use Prim.Native.Nat.{ℕ, _+_, _<_, _^_}
+use native.Mathlib.Omega.{arith}
 use lib.IntN.{ℤ, pos}
 use lib.ListN.{getD}
 use lib.Signed.{mag}
@@ -28,8 +29,13 @@ module _ (v : ℤ) (h : mag v < 2 ^ 31) where
   wide : toZ w64 (ofZ w64 (toZ w32 (ofZ w32 v))) ≡ v
   wide = toZ-ofZ wide-fits ∙ toZ-ofZ narrow
 
-  plain : (b : Bool) (a : ℤ) → Unless b (a ≡ toZ w64 (ofZ w64 (toZ w32 (ofZ w32 v)))) → Unless b (a ≡ v)
-  plain b a u = unless-last b (a ≡ toZ w64 (ofZ w64 (toZ w32 (ofZ w32 v)))) (a ≡ v) (λ e. e ∙ wide) (λ e. e ∙ sym wide) u
+  -- at place k of l, which is place n in other words
+  plain : (b : Bool) (l : List ℤ) (n k : ℕ) → Unless b (getD l k (pos 0) ≡ toZ w64 (ofZ w64 (toZ w32 (ofZ w32 v)))) → k ≡ n → Unless b (getD l n (pos 0) ≡ v)
+  plain b l n k u i =
+      unless-last b (getD l k (pos 0) ≡ toZ w64 (ofZ w64 (toZ w32 (ofZ w32 v)))) (getD l n (pos 0) ≡ v)
+      (λ e. ap (λ (m : ℕ). getD l m (pos 0)) (sym i) ∙ e ∙ wide)
+      (λ e. ap (λ (m : ℕ). getD l m (pos 0)) i ∙ e ∙ sym wide)
+      u
 
 -- both comparisons, with the numbers as they were widened
 module _ (c : tie.After-differs) where
@@ -40,10 +46,10 @@ module _ (c : tie.After-differs) where
   list = start .args .s .now
 
   first : Unless (c .differs .result) (getD list (start .args .i + leastPlace) (pos 0) ≡ start .args .v .least)
-  first = plain (start .args .v .least) (c .before .before .before .struct-told .given .0 .1) (c .differs .result) (getD list (start .args .i + leastPlace) (pos 0)) (c .differs .ensures)
+  first = plain (start .args .v .least) (c .before .before .before .struct-told .given .0 .1) (c .differs .result) list (start .args .i + leastPlace) _ (c .differs .ensures) (omega arith)
 
 second : (c : tie.After-differs2) → let d = c .before .before in Unless (c .differs2 .result) (getD (list d) (start d .args .i + greatestPlace) (pos 0) ≡ start d .args .v .greatest)
-second c = let d = c .before .before in plain (start d .args .v .greatest) (d .before .struct-told2 .given .1 .0 .1) (c .differs2 .result) (getD (list d) (start d .args .i + greatestPlace) (pos 0)) (c .differs2 .ensures)
+second c = let d = c .before .before in plain (start d .args .v .greatest) (d .before .struct-told2 .given .1 .0 .1) (c .differs2 .result) (list d) (start d .args .i + greatestPlace) _ (c .differs2 .ensures) (omega arith)
 
 cast-least : tie.Need-cast-least
 cast-least c = wide-fits (c .before .before .args .v .least) (c .struct-told .given .0 .1)
