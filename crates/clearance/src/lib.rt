@@ -36,7 +36,7 @@ pub fn map(job: Job, store: &mut [i32], cells: &mut [u8]) -> Map
 }
 
 // Bounds the squared distance of the point (x, y) from a job's outline, in fine units, given a store that begins with the job's trees; or the
-// refusal 2, 3, 4, 5, 6 or 8 and zeros. The edge is the first that attains the upper bound: see `FirstEdge`; of the bounds see `Bounds`.
+// refusal 2, 3, 4, 5, 6 or 8 and zeros. The edge is the first that attains the upper bound (`PointFirst`); of the bounds see `Bounds`.
 pub fn point(job: Job, x: i32, y: i32, store: &[i32]) -> Nearest
     ensures answer { λ r. ⌜ r ≡ entries.point job x y (now (store .entry)) ⌝ }
     ensures bounds { λ r. ⌜ (r .refusal ≡ 0 → Bounds job (wholePoint x y) (r .lo) (r .hi)) ⌝ }

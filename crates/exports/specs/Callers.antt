@@ -28,7 +28,7 @@ use Rattle.clearance.specs.Sheets.{read-whole}
 use Rattle.flat_jobs.specs.FlatJobs.{jobFrom, numbersOf}
 use Rattle.flat_jobs.specs.Rows.{from-whole, row-kept}
 use Rattle.exports.specs.Rows.{readLeaves, bytesLeft, numbersLeft}
-use Rattle.exports.specs.Promises.{ReadNumbers, RowRead, sheetLeft, SheetBack, RowBack, Told, ReadMapPoint}
+use Rattle.exports.specs.Promises.{ReadNumbers, RowRead, sheetLeft, SheetBack, RowBack, Told, PointTold, ReadMapPoint}
 
 -- ---- reading
 own-four : (a b c : Bool) → first ((edges, a) ∷ (range, b) ∷ (cell, c) ∷ []) ≤ 4
@@ -78,10 +78,18 @@ row-back row other out count h =
     let again = ap (λ (n : ℕ). read (take n (writeLeaves j out))) (count-left j out count h) ∙ write-read j out (from-whole row) h in
     let taken = ap (λ (r : Read). r .refusal) again in (taken, row-job (sheetLeft row out count) other taken ∙ ap (λ (r : Read). r .job) again)
 
--- ---- the three numbers that an accepted call for a point leaves
+-- ---- an accepted call for a point: its numbers are the bounds and the first edge
 numbers-are : (j : Job) (x y : ℤ) (store old : List ℤ) → point j x y store .refusal ≡ 0 → numbersLeft j x y store old ≡ point j x y store .lo ∷ point j x y store .hi ∷ pos (point j x y store .edge) ∷ []
 unfolding numbersLeft
 numbers-are j x y store old h = accepted-is (point j x y store .refusal) _ old h
+
+told : (j : Job) (x y : ℤ) (store old : List ℤ) → point j x y store .refusal ≡ 0 → Told j x y (point j x y store .refusal) (numbersLeft j x y store old)
+told j x y store old h =
+    rw (numbers-are j x y store old h)
+    (record { given = h; bounds = demands.point-holds j x y store h; edge = point j x y store .edge; edge-is = refl; first = demands.point-first j x y store h })
+
+pub point-told : PointTold
+point-told row x y store old h = told (jobFrom row) x y store old h
 
 -- ---- the store that an accepted map leaves begins with the job's trees, and has room for them
 module _ (j : Job) (store : List ℤ) (cells : List ℕ) (h : mapRefusal j store cells ≡ 0) where
@@ -104,13 +112,11 @@ module _ (j : Job) (store : List ℤ) (cells : List ℕ) (h : mapRefusal j store
       subst (λ (s : List ℤ). first (pointChecks j x y s) ≡ 0) (sym trees-left)
       (all-pass (pointChecks j x y (over (storeOf j) store)) (p .0, (p .1 .0, (rw (hx, hy), (p .1 .1 .0, (p .1 .1 .1 .0, (room, (begun, tt))))))))
 
-  -- and its numbers are the bounds and the first edge
+  -- and its numbers tell of the job
   pub point-drawn : (x y : ℤ) (old : List ℤ) → coordinate x ≡ true → coordinate y ≡ true → Told j x y (point j x y (mapStore j store cells) .refusal) (numbersLeft j x y (mapStore j store cells) old)
   point-drawn x y old hx hy =
-      let s : List ℤ = mapStore j store cells in
-      let z : point j x y s .refusal ≡ 0 = unfold point in point-passes x y hx hy in
-      rw (numbers-are j x y s old z)
-      (record { given = z; bounds = demands.point-holds j x y s z; edge = point j x y s .edge; edge-is = refl; first = demands.point-first j x y s z })
+      let z : point j x y (mapStore j store cells) .refusal ≡ 0 = unfold point in point-passes x y hx hy in
+      told j x y (mapStore j store cells) old z
 
 -- ---- read, map, point
 pub read-map-point : ReadMapPoint

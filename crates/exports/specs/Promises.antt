@@ -34,8 +34,8 @@ SheetBack = (sheet : List ℕ) (row : List ℤ) (out : List ℕ) (count : ℕ) �
 abbrev pub RowBack : Type 0
 RowBack = (row other : List ℤ) (out : List ℕ) (count : ℕ) → write (jobFrom row) out .refusal ≡ 0 → (read (sheetLeft row out count) .refusal ≡ 0) × (jobFrom (readLeaves (sheetLeft row out count) other) ≡ jobFrom row)
 
--- ---- read, map, point
--- what an accepted call for a point tells by its refusal and its three numbers: bounds of the distance, and the first edge that gives the upper one
+-- ---- a point
+-- what an accepted call tells by its refusal and its three numbers: bounds of the distance, and the first edge that gives the upper one
 pub record Told (j : Job) (x y : ℤ) (refusal : ℕ) (numbers : List ℤ) : Type 0 where
   pub given : refusal ≡ 0
   pub bounds : Bounds j (wholePoint x y) (loIn numbers) (hiIn numbers)
@@ -43,6 +43,11 @@ pub record Told (j : Job) (x y : ℤ) (refusal : ℕ) (numbers : List ℤ) : Typ
   pub edge-is : edgeIn numbers ≡ pos edge
   pub first : FirstEdge j x y edge
 
+-- so does every call that is accepted, whatever the row and the store
+abbrev pub PointTold : Type 0
+PointTold = (row : List ℤ) (x y : ℤ) (store old : List ℤ) → point (jobFrom row) x y store .refusal ≡ 0 → Told (jobFrom row) x y (point (jobFrom row) x y store .refusal) (numbersLeft (jobFrom row) x y store old)
+
+-- ---- read, map, point
 -- of a sheet that was read and the row then drawn, both accepted: demand 3 holds of the map for the job that was read; and asked with the
 -- store that drawing left, each point in range has an answer, which tells of that job's outline
 pub record DrawnFrom (sheet : List ℕ) (row store : List ℤ) (cells : List ℕ) : Type 0 where

@@ -16,8 +16,8 @@ pub record State : Type 0 where
   pub edge : ℕ
   pub reads : ℕ
 
--- before the first leaf there are no bounds. A number stands for them that is above those of every leaf of a legal job's trees, so that nothing is
--- skipped for it
+-- before the first leaf there are no bounds. A number stands for them that is above the least bounds of every tree of a legal job, for a point in
+-- range (`least-below`)
 abbrev pub none : ℤ
 none = pos (2 ^ 62)
 

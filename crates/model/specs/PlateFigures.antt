@@ -109,6 +109,10 @@ two = job (negsuc 3) (pos 0) (pos 4) (pos 2) (pos 6) (pos 1) 2 (pos 0 ∷ pos 0 
 abbrev pub level : Job
 level = job (pos 0) (pos 0) (pos 0) (pos 0) (pos 1) (pos 1) 2 (pos 0 ∷ pos 0 ∷ pos 0 ∷ pos 0 ∷ pos 0 ∷ pos 0 ∷ pos 0 ∷ pos 0 ∷ pos 10 ∷ pos 0 ∷ pos 10 ∷ pos 0 ∷ pos 10 ∷ pos 0 ∷ pos 10 ∷ pos 0 ∷ [])
 
+-- a point edge at (10, 7), and two at (0, 0)
+abbrev pub twice : Job
+twice = job (pos 0) (pos 0) (pos 0) (pos 0) (pos 1) (pos 1) 3 (pos 10 ∷ pos 7 ∷ pos 10 ∷ pos 7 ∷ pos 10 ∷ pos 7 ∷ pos 10 ∷ pos 7 ∷ [])
+
 -- a slanted edge, which is halved once
 abbrev pub slanted : Job
 slanted = job (pos 3) (pos 6) (pos 4) (pos 2) (pos 6) (pos 4) 1 (pos 11 ∷ pos 16 ∷ pos 6 ∷ pos 16 ∷ pos 12 ∷ pos 14 ∷ pos 13 ∷ pos 22 ∷ [])
@@ -242,6 +246,8 @@ plateFigures =
     ∷ attains level (pos 5) (pos 0) 0
     ∷ attains level (pos 5) (pos 0) 1
     ∷ names level (pos 5) (pos 0) 0
+    ∷ attains twice (pos 1) (pos 2) 2
+    ∷ names twice (pos 1) (pos 2) 1
     -- the halves count, and not the whole
     ∷ bounds slanted (pos 9) (pos 18) (pos 100) (pos 2677)
     ∷ bounds slanted (pos 14) (pos 16) (pos 100) (pos 8149)
@@ -282,7 +288,7 @@ plates-hold =
     refl and refl and refl and refl and refl and refl and refl and refl and refl and refl and refl and refl and refl and refl and refl and refl and refl and refl and refl
     and (refl, refl) and inl refl and apart (pos 14848) (pos 6400) tt and refl
     and (refl, refl) and apart (pos 41472) (pos 1280) tt and inl refl and (λ h. h) and refl
-    and inl refl and inl refl and refl
+    and inl refl and inl refl and refl and inl refl and refl
     and (refl, refl) and (refl, refl) and (refl, refl)
     and (refl, refl) and inr (inl refl) and refl
     and (refl, refl) and inl refl and (λ h. elim h [ inl e ↦ apart (pos 8381) (pos 4352) tt (inl e) | inr k ↦ apart (pos 36941) (pos 4352) tt k ]) and refl

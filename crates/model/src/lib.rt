@@ -36,8 +36,8 @@ pub struct Map {
     pub nodes: usize,
 }
 
-// What a point answers: the refusal's number or 0, and the bounds of its squared distance in fine units with an edge that attains the
-// upper one, all 0 where it is refused.
+// What a point answers: the refusal's number or 0, and the bounds of its squared distance in fine units with the first edge that
+// attains the upper one, all 0 where it is refused.
 pub struct Nearest {
     pub refusal: u8,
     pub lo: i64,

@@ -22,7 +22,7 @@ returns c =
     let p = c .before .point in
     let x : mag (s .args .x) < 2 ^ 31 = search needs in
     let y : mag (s .args .y) < 2 ^ 31 = search needs in
-    steps.not-answered (s .args .job .now) (j .result) (j .ensures) (s .args .x) (s .args .y) (s .args .store .now) (s .args .nearest .now) (p .result) x y (p .ensures .0) (c .if1 .taken)
+    steps.not-answered (s .args .job .now) (j .result) (j .ensures) (s .args .x) (s .args .y) (s .args .store .now) (s .args .nearest .now) (p .result) x y (p .ensures .0) (omega (arith, c .if1 .taken))
 
 edge-number-requires : tie.Need-edge-number-requires
 edge-number-requires c κs =
