@@ -82,9 +82,12 @@ long m = job (pos 0) (pos 0) (pos 1) m (pos 1) (pos 1) 1 (pos 0 ∷ pos 0 ∷ po
 abbrev pub soundStore : List ℤ
 soundStore = pos 0 ∷ pos 0 ∷ pos 0 ∷ pos 0 ∷ pos 0 ∷ pos 0 ∷ pos 1 ∷ pos 0 ∷ pos 0 ∷ pos 0 ∷ pos 0 ∷ []
 
--- point edges at (0, 0) and (10, 7)
+-- point edges at (0, 0) and (10, 7), with an M and a reach
+abbrev pub paired : ℤ → ℤ → Job
+paired m r = job (pos 0) (pos 0) (pos 1) m r (pos 10) 2 (replicate 8 (pos 0) ++ (pos 10 ∷ pos 7 ∷ pos 10 ∷ pos 7 ∷ pos 10 ∷ pos 7 ∷ pos 10 ∷ pos 7 ∷ []))
+
 abbrev pub pair : Job
-pair = job (pos 0) (pos 0) (pos 1) (pos 0) (pos 9) (pos 10) 2 (replicate 8 (pos 0) ++ (pos 10 ∷ pos 7 ∷ pos 10 ∷ pos 7 ∷ pos 10 ∷ pos 7 ∷ pos 10 ∷ pos 7 ∷ []))
+pair = paired (pos 0) (pos 9)
 
 abbrev pub pairStore : List ℤ
 pairStore = soundStore ++ (pos 160 ∷ pos 112 ∷ pos 0 ∷ pos 0 ∷ pos 0 ∷ pos 0 ∷ pos 1 ∷ pos 160 ∷ pos 112 ∷ pos 160 ∷ pos 112 ∷ [])
@@ -179,6 +182,8 @@ pointFigures =
     ∷ point-of ruled (pos 9) (pos 11) ruledStore (record { refusal = 0; lo = pos 3328; hi = pos 4352; edge = 0 })
     -- zeros, where an answer would name edge 1
     ∷ point-of pair off (pos 4) pairStore (refused 3)
+    ∷ point-of (paired (pos 0) (pos 0)) (pos 9) (pos 1) pairStore (refused 3)
+    ∷ point-of (paired (pos 2) (pos 9)) (pos 9) (pos 1) pairStore (refused 4)
     ∷ point-of pair (pos 9) (pos 1) [] (refused 6)
     ∷ point-of pair (pos 9) (pos 1) (replicate 22 (pos 2)) (refused 8)
     ∷ []
@@ -222,7 +227,7 @@ pub asking-holds : AllHold Holds pointFigures
 unfolding point pointRefusal accepted counted ranged celled between coordinate isZero placed isOne spare kind marked forest outline edgesFrom curved straight sideAt strip absℤ tree pieces begins same leaves leavesAll least firstAt
 asking-holds =
     refl and refl and refl and refl and refl and refl and refl and refl and refl and refl and refl and refl and refl
-    and refl and refl and refl and refl and refl and refl and refl
+    and refl and refl and refl and refl and refl and refl and refl and refl and refl
     and tt
 
 pub printing-holds : AllHold Holds printFigures

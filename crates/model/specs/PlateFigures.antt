@@ -3,11 +3,12 @@
 use mathlib.Core.Path.{_≡_, refl}
 use mathlib.Core.Bool.{Bool, true, false, _&&_}
 use mathlib.Core.Logic.{_⊎_, inl, inr}
-use mathlib.Core.List.{List, [], _∷_}
+use mathlib.Core.List.{List, [], _∷_, _++_}
 use Prim.Native.Nat.{ℕ, zero, suc}
 use Prim.Native.String.{String}
 use lib.Dec.{T}
 use lib.IntN.{ℤ, pos, negsuc}
+use lib.ListN.{replicate}
 use lib.Signed.{ltZ}
 use Rattle.basics.specs.Lists.{table, rowMajor}
 use Rattle.basics.specs.Numbers.{absℤ}
@@ -112,6 +113,10 @@ level = job (pos 0) (pos 0) (pos 0) (pos 0) (pos 1) (pos 1) 2 (pos 0 ∷ pos 0 �
 -- a point edge at (10, 7), and two at (0, 0)
 abbrev pub twice : Job
 twice = job (pos 0) (pos 0) (pos 0) (pos 0) (pos 1) (pos 1) 3 (pos 10 ∷ pos 7 ∷ pos 10 ∷ pos 7 ∷ pos 10 ∷ pos 7 ∷ pos 10 ∷ pos 7 ∷ [])
+
+-- 64 point edges, the last at (8, 0) and the others at (0, 0)
+abbrev pub many : Job
+many = job (pos 0) (pos 0) (pos 0) (pos 0) (pos 1) (pos 1) 64 (replicate 504 (pos 0) ++ (pos 8 ∷ pos 0 ∷ pos 8 ∷ pos 0 ∷ pos 8 ∷ pos 0 ∷ pos 8 ∷ pos 0 ∷ []))
 
 -- a slanted edge, which is halved once
 abbrev pub slanted : Job
@@ -248,10 +253,14 @@ plateFigures =
     ∷ names level (pos 5) (pos 0) 0
     ∷ attains twice (pos 1) (pos 2) 2
     ∷ names twice (pos 1) (pos 2) 1
+    ∷ attains many (pos 8) (pos 0) 63
+    ∷ names many (pos 8) (pos 0) 63
     -- the halves count, and not the whole
     ∷ bounds slanted (pos 9) (pos 18) (pos 100) (pos 2677)
     ∷ bounds slanted (pos 14) (pos 16) (pos 100) (pos 8149)
     ∷ bounds slanted (pos 9) (pos 16) (pos 0) (pos 1205)
+    -- the first leaf alone attains the greater bound
+    ∷ names slanted (pos 9) (pos 18) 0
     -- the first leaf is the closest one, and the second alone attains the greater bound
     ∷ bounds bowed (pos 11) (pos 13) (pos 3844) (pos 21124)
     ∷ attains bowed (pos 11) (pos 13) 0
@@ -288,8 +297,8 @@ plates-hold =
     refl and refl and refl and refl and refl and refl and refl and refl and refl and refl and refl and refl and refl and refl and refl and refl and refl and refl and refl
     and (refl, refl) and inl refl and apart (pos 14848) (pos 6400) tt and refl
     and (refl, refl) and apart (pos 41472) (pos 1280) tt and inl refl and (λ h. h) and refl
-    and inl refl and inl refl and refl and inl refl and refl
-    and (refl, refl) and (refl, refl) and (refl, refl)
+    and inl refl and inl refl and refl and inl refl and refl and inl refl and refl
+    and (refl, refl) and (refl, refl) and (refl, refl) and refl
     and (refl, refl) and inr (inl refl) and refl
     and (refl, refl) and inl refl and (λ h. elim h [ inl e ↦ apart (pos 8381) (pos 4352) tt (inl e) | inr k ↦ apart (pos 36941) (pos 4352) tt k ]) and refl
     and tt

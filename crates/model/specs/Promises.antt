@@ -167,6 +167,10 @@ PointBounds = (j : Job) → judge j ≡ 0 → (x y : ℤ) → Bounds j (wholePoi
 abbrev pub PointTrue : Type 0
 PointTrue = (j : Job) (x y : ℤ) (store : List ℤ) → point j x y store .refusal ≡ 0 → Bounds j (wholePoint x y) (point j x y store .lo) (point j x y store .hi)
 
+-- and what a refused one has
+abbrev pub PointZeros : Type 0
+PointZeros = (j : Job) (x y : ℤ) (store : List ℤ) → (point j x y store .refusal ≡ 0 → ⊥) → (point j x y store .lo ≡ pos 0) × (point j x y store .hi ≡ pos 0) × (point j x y store .edge ≡ 0)
+
 -- ---- the edge named with a point is one of the job's, of its leaves one attains hi, and of no earlier edge's one does
 pub record FirstEdge (j : Job) (x y : ℤ) (e : ℕ) : Type 0 where
   pub there : e < j .count

@@ -145,6 +145,8 @@ stripFigures =
     ∷ begins-with (pos 5 ∷ negsuc 6 ∷ []) (pos 5 ∷ negsuc 5 ∷ []) false
     ∷ begins-with (pos 5 ∷ pos 5 ∷ []) (pos 5 ∷ negsuc 5 ∷ []) false
     ∷ begins-with (negsuc 5 ∷ negsuc 5 ∷ []) (pos 5 ∷ negsuc 5 ∷ []) false
+    ∷ begins-with (pos 5 ∷ pos 6 ∷ []) (pos 5 ∷ negsuc 5 ∷ []) false
+    ∷ begins-with (negsuc 4 ∷ negsuc 5 ∷ []) (pos 5 ∷ negsuc 5 ∷ []) false
     ∷ begins-with [] [] true
     -- roots, rounded up
     ∷ root-of 0 0
@@ -171,5 +173,5 @@ strips-hold =
     and refl and refl and refl and refl
     and (refl, refl)
     and refl and refl and refl and refl and refl and refl and refl and refl and refl and refl and refl
-    and refl and refl and refl and refl and refl and refl and refl and refl and refl and refl and refl and refl and refl
+    and refl and refl and refl and refl and refl and refl and refl and refl and refl and refl and refl and refl and refl and refl and refl
     and tt
