@@ -25,7 +25,7 @@ pub struct Found {
     pub reads: usize,
 }
 
-// stands for the bounds before the first leaf: 2^62 is above the least bounds of every tree of a legal job (`least-below`)
+// stands for the bounds before the first leaf: 2^62 is above the least bounds of every tree of a legal job for a point in range (`least-below`)
 const NONE: i64 = 4611686018427387904;
 
 // ---- one leaf

@@ -42,12 +42,12 @@ module _ (f : Strip → ℤ) where
       go false n = refl
 
   -- ---- tree k is the first of which a leaf is at z
-  pub record FirstAt (ts : List Tree) (z : ℤ) (k : ℕ) : Type 0 where
+  pub record Earliest (ts : List Tree) (z : ℤ) (k : ℕ) : Type 0 where
     pub attains : Some (λ s. f s ≡ z) (leavesAt ts k)
     pub first : (j : ℕ) → j < k → Some (λ s. f s ≡ z) (leavesAt ts j) → ⊥
 
   -- a tree whose least is z has a leaf there
-  at-once : (t : Tree) (us : List Tree) (z : ℤ) → z ≡ least f (leaves t) → FirstAt (t ∷ us) z 0
+  at-once : (t : Tree) (us : List Tree) (z : ℤ) → z ≡ least f (leaves t) → Earliest (t ∷ us) z 0
   unfolding leavesAt
   at-once t us z i = record {
     attains = subst (λ (z : ℤ). Some (λ s. f s ≡ z) (leaves t)) (sym i) (attained f (leaves t) (leaf-there t));
@@ -55,7 +55,7 @@ module _ (f : Strip → ℤ) where
   }
 
   -- one tree more before those whose first is at z, with no leaf as low
-  after : (t : Tree) (us : List Tree) (z : ℤ) (k : ℕ) → z ≺ least f (leaves t) → FirstAt us z k → FirstAt (t ∷ us) z (suc k)
+  after : (t : Tree) (us : List Tree) (z : ℤ) (k : ℕ) → z ≺ least f (leaves t) → Earliest us z k → Earliest (t ∷ us) z (suc k)
   unfolding leavesAt
   after t us z k h a = record { attains = a .attains; first = before }
     where
@@ -63,11 +63,11 @@ module _ (f : Strip → ℤ) where
       before zero i w = clashℤ h (none-below f (leaves t) z w)
       before (suc j) i w = a .first j (omega arith) w
 
-  -- ---- of trees of which there is one, the definition gives the first
-  pub first-is : (t : Tree) (us : List Tree) (z : ℤ) → z ≡ least f (leavesAll (t ∷ us)) → FirstAt (t ∷ us) z (firstAt f z (t ∷ us))
+  -- ---- where there is a tree at all, the definition gives the first
+  pub first-is : (t : Tree) (us : List Tree) (z : ℤ) → z ≡ least f (leavesAll (t ∷ us)) → Earliest (t ∷ us) z (firstAt f z (t ∷ us))
   first-is t [] z e =
       let i : z ≡ least f (leaves t) = e ∙ least-one f t in
-      subst (FirstAt (t ∷ []) z) (sym (first-here t [] z (sym i))) (at-once t [] z i)
+      subst (Earliest (t ∷ []) z) (sym (first-here t [] z (sym i))) (at-once t [] z i)
   first-is t (u ∷ us) z e = ⊎-elim (others (first-is u us z)) own (either-way A B)
     where
       A : ℤ
@@ -76,20 +76,20 @@ module _ (f : Strip → ℤ) where
       B : ℤ
       B = least f (leavesAll (u ∷ us))
 
-      others : (z ≡ B → FirstAt (u ∷ us) z (firstAt f z (u ∷ us))) → B ≺ A → FirstAt (t ∷ u ∷ us) z (firstAt f z (t ∷ u ∷ us))
+      others : (z ≡ B → Earliest (u ∷ us) z (firstAt f z (u ∷ us))) → B ≺ A → Earliest (t ∷ u ∷ us) z (firstAt f z (t ∷ u ∷ us))
       others rest d =
           let i : z ≡ B = e ∙ least-more f t u us ∙ lesser-second (weak d) in
           let h : z ≺ A = ≼-≺-trans (≼-refl i) d in
-          subst (FirstAt (t ∷ u ∷ us) z) (sym (first-later t (u ∷ us) z h)) (after t (u ∷ us) z (firstAt f z (u ∷ us)) h (rest i))
+          subst (Earliest (t ∷ u ∷ us) z) (sym (first-later t (u ∷ us) z h)) (after t (u ∷ us) z (firstAt f z (u ∷ us)) h (rest i))
 
-      own : A ≼ B → FirstAt (t ∷ u ∷ us) z (firstAt f z (t ∷ u ∷ us))
+      own : A ≼ B → Earliest (t ∷ u ∷ us) z (firstAt f z (t ∷ u ∷ us))
       own d =
           let i : z ≡ A = e ∙ least-more f t u us ∙ lesser-first d in
-          subst (FirstAt (t ∷ u ∷ us) z) (sym (first-here t (u ∷ us) z (sym i))) (at-once t (u ∷ us) z i)
+          subst (Earliest (t ∷ u ∷ us) z) (sym (first-here t (u ∷ us) z (sym i))) (at-once t (u ∷ us) z i)
 
 -- ---- of a job
 module _ (x y : ℤ) where
-  of-some : (ts : List Tree) → 1 ≤ length ts → FirstAt (farthest² (spot x y)) ts (hi ts x y) (named ts x y)
+  of-some : (ts : List Tree) → 1 ≤ length ts → Earliest (farthest² (spot x y)) ts (hi ts x y) (named ts x y)
   of-some [] h = absurd (omega arith)
   of-some (t ∷ us) h = first-is (farthest² (spot x y)) t us (hi (t ∷ us) x y) refl
 
