@@ -149,7 +149,7 @@ enum {
     /* Some point of the outline is within this; squared fine units. */
     CLEARANCE_HI = 1,
     /* The first edge, in the order of the job and from 0, with a leaf that gives
-     * the bound hi (theorem point-first). */
+     * the bound hi (theorem point-told). */
     CLEARANCE_EDGE = 2,
     /* How many numbers there are. */
     CLEARANCE_NEAREST_NUMBERS = 3
