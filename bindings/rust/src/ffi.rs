@@ -51,8 +51,8 @@ extern "C" {
         nodes: *mut usize,
     ) -> u8;
 
-    /// Bounds a point's distance: lo, hi and the first edge that gives hi. A refused call writes
-    /// nothing.
+    /// Bounds a point's distance: lo, hi and the first edge that gives hi. A
+    /// refused call writes nothing.
     ///
     /// # Safety
     /// `job` holds `job_len` numbers, `store` `store_len`, and `nearest` has three
