@@ -38,7 +38,7 @@ lo ts x y = least (closest² (spot x y)) (leavesAll ts)
 abbrev pub hi : List Tree → ℤ → ℤ → ℤ
 hi ts x y = least (farthest² (spot x y)) (leavesAll ts)
 
--- ---- the edge named: counted from 0, the first of the trees whose own least value is the upper bound
+-- ---- the edge named: counted from 0, the first of the trees whose own least value is the upper bound; where there is no tree, 0
 unfoldable pub firstAt : (Strip → ℤ) → ℤ → List Tree → ℕ
 firstAt f z [] = 0
 firstAt f z (t ∷ ts) = cond (same (least f (leaves t)) z) 0 (suc (firstAt f z ts))

@@ -114,6 +114,10 @@ level = job (pos 0) (pos 0) (pos 0) (pos 0) (pos 1) (pos 1) 2 (pos 0 ∷ pos 0 �
 abbrev pub twice : Job
 twice = job (pos 0) (pos 0) (pos 0) (pos 0) (pos 1) (pos 1) 3 (pos 10 ∷ pos 7 ∷ pos 10 ∷ pos 7 ∷ pos 10 ∷ pos 7 ∷ pos 10 ∷ pos 7 ∷ [])
 
+-- no edge at all
+abbrev pub bare : Job
+bare = job (pos 0) (pos 0) (pos 0) (pos 0) (pos 1) (pos 1) 0 []
+
 -- 64 point edges, the last at (8, 0) and the others at (0, 0)
 abbrev pub many : Job
 many = job (pos 0) (pos 0) (pos 0) (pos 0) (pos 1) (pos 1) 64 (replicate 504 (pos 0) ++ (pos 8 ∷ pos 0 ∷ pos 8 ∷ pos 0 ∷ pos 8 ∷ pos 0 ∷ pos 8 ∷ pos 0 ∷ []))
@@ -255,6 +259,7 @@ plateFigures =
     ∷ names twice (pos 1) (pos 2) 1
     ∷ attains many (pos 8) (pos 0) 63
     ∷ names many (pos 8) (pos 0) 63
+    ∷ names bare (pos 8) (pos 0) 0
     -- the halves count, and not the whole
     ∷ bounds slanted (pos 9) (pos 18) (pos 100) (pos 2677)
     ∷ bounds slanted (pos 14) (pos 16) (pos 100) (pos 8149)
@@ -297,7 +302,7 @@ plates-hold =
     refl and refl and refl and refl and refl and refl and refl and refl and refl and refl and refl and refl and refl and refl and refl and refl and refl and refl and refl
     and (refl, refl) and inl refl and apart (pos 14848) (pos 6400) tt and refl
     and (refl, refl) and apart (pos 41472) (pos 1280) tt and inl refl and (λ h. h) and refl
-    and inl refl and inl refl and refl and inl refl and refl and inl refl and refl
+    and inl refl and inl refl and refl and inl refl and refl and inl refl and refl and refl
     and (refl, refl) and (refl, refl) and (refl, refl) and refl
     and (refl, refl) and inr (inl refl) and refl
     and (refl, refl) and inl refl and (λ h. elim h [ inl e ↦ apart (pos 8381) (pos 4352) tt (inl e) | inr k ↦ apart (pos 36941) (pos 4352) tt k ]) and refl
