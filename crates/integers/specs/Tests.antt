@@ -5,7 +5,8 @@ use mathlib.Core.Logic.{_⊎_, inl, inr}
 use Prim.Native.Nat.{ℕ, _≤_}
 use lib.Dec.{T, leb, leb→le}
 use lib.IntN.{ℤ, pos, negsuc}
-use lib.Signed.{leZ, ltZ, leZ-yes, ltZ-yes, ltZ-no}
+use lib.Signed.{leZ, ltZ, leZ-yes, ltZ-yes, ltZ-no, clashℤ}
+use borrow.Author.Tests.{not-false}
 use Rattle.integers.specs.Order.{_≼_, _≺_}
 
 -- ---- of booleans
@@ -73,8 +74,22 @@ le-false {a} {b} e = go (ltZ b a) refl
     go true f = lt-true f
     go false f = let h : a ≼ b = lt-false f in absurd (subst T e (h .le))
 
+-- the same two in other words, for code that asks whether it is not at most
+pub not-le-true : {a b : ℤ} → not (leZ a b) ≡ true → b ≺ a
+not-le-true {a} {b} e = le-false (negated (leZ a b) e)
+
+pub not-le-false : {a b : ℤ} → not (leZ a b) ≡ false → a ≼ b
+not-le-false {a} {b} e = le-true (not-false (leZ a b) e)
+
 pub true-le : {a b : ℤ} → a ≼ b → leZ a b ≡ true
 true-le {a} {b} h = is-true (leZ a b) (h .le)
 
 pub true-lt : {a b : ℤ} → a ≺ b → ltZ a b ≡ true
 true-lt {a} {b} h = is-true (ltZ a b) (h .lt)
+
+pub false-lt : {a b : ℤ} → b ≼ a → ltZ a b ≡ false
+false-lt {a} {b} h = go (ltZ a b) refl
+  where
+    go : (t : Bool) → ltZ a b ≡ t → t ≡ false
+    go true e = clashℤ (lt-true {a = a} {b = b} e) h
+    go false e = refl

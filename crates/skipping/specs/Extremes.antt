@@ -3,21 +3,14 @@ use mathlib.Core.Path.{_≡_, refl, sym, ap, _∙_, subst}
 use mathlib.Core.Bool.{Bool, true, false, cond}
 use mathlib.Core.Logic.{_⊎_, inl, inr, ⊎-elim}
 use lib.IntN.{ℤ, pos, negsuc}
-use lib.Signed.{ltZ, clashℤ}
+use lib.Signed.{ltZ}
 use Rattle.integers.specs.RingSolver.{name₂}
 use Rattle.integers.specs.Order.{_≼_, _≺_, num, ≼-refl}
 use Rattle.integers.specs.Omega.{zarith}
 use Rattle.integers.specs.Inequalities.{≼-trans, ≼-≺-trans, weak}
-use Rattle.integers.specs.Tests.{lt-true, lt-false, true-lt}
+use Rattle.integers.specs.Tests.{lt-true, lt-false, true-lt, false-lt}
 use Rattle.model.specs.Boxes.{lesser, greater}
 use Rattle.model.specs.Explore.{atLeast0}
-
-pub false-lt : {a b : ℤ} → b ≼ a → ltZ a b ≡ false
-false-lt {a} {b} h = go (ltZ a b) refl
-  where
-    go : (t : Bool) → ltZ a b ≡ t → t ≡ false
-    go true e = clashℤ (lt-true {a = a} {b = b} e) h
-    go false e = refl
 
 antisym : {a b : ℤ} → a ≼ b → b ≼ a → a ≡ b
 antisym {a} {b} = name₂ a b λ σ p q. simp (p, q) (omega zarith)

@@ -10,7 +10,7 @@ use lib.ListN.{length}
 use Rattle.integers.specs.Order.{_≼_, _≺_, ≼-refl}
 use Rattle.integers.specs.Inequalities.{≼-trans, ≼-≺-trans, weak}
 use Rattle.integers.specs.Signed.{natAbs-mul}
-use Rattle.integers.specs.Tests.{true-lt}
+use Rattle.integers.specs.Tests.{true-lt, false-lt}
 use Rattle.model.specs.Trees.{Tree}
 use Rattle.model.specs.Boxes.{lesser}
 use Rattle.model.specs.Store.{forest}
@@ -22,7 +22,7 @@ use Rattle.ranges.specs.Legal.{coordinate-true, coordinate-size, Legal, legal}
 use Rattle.ranges.specs.Sizes.{EachSized}
 use Rattle.ranges.specs.Jobs.{forest-sized}
 use Rattle.subtrees.specs.Sizes.{forest-many}
-use Rattle.skipping.specs.Extremes.{false-lt, lesser-first, lesser-second, lesser-≼, lesser-assoc, ≺-lesser, either-way}
+use Rattle.skipping.specs.Extremes.{lesser-first, lesser-second, lesser-≼, lesser-assoc, ≺-lesser, either-way}
 use Rattle.skipping.specs.Least.{least-one, least-more, no-more}
 use Rattle.skipping.specs.Named.{first-here, first-later}
 use Rattle.skipping.specs.Nearness.{least-first, least-below}

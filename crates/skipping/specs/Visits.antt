@@ -8,7 +8,7 @@ use lib.IntN.{ℤ, pos}
 use lib.Signed.{ltZ}
 use Rattle.integers.specs.Order.{_≼_}
 use Rattle.integers.specs.Inequalities.{≼-trans}
-use Rattle.integers.specs.Tests.{le-true}
+use Rattle.integers.specs.Tests.{le-true, false-lt}
 use Rattle.model.specs.Strips.{Strip}
 use Rattle.model.specs.Trees.{Tree, leaf, long, node}
 use Rattle.model.specs.Boxes.{upright, boxOf, lesser}
@@ -16,7 +16,7 @@ use Rattle.model.specs.Explore.{Cell, farthest², closest²}
 use Rattle.model.specs.Distance.{leaves, least, near², far²}
 use Rattle.model.specs.Lookup.{State, looked, skipped, taken, visit}
 use Rattle.ranges.specs.Sizes.{AllSized}
-use Rattle.skipping.specs.Extremes.{false-lt, lesser-first, lesser-mono, lesser-assoc, taken-twice}
+use Rattle.skipping.specs.Extremes.{lesser-first, lesser-mono, lesser-assoc, taken-twice}
 use Rattle.skipping.specs.Nearness.{near-upright, far-upright, least-node, box-nearer, least-first}
 
 module _ (x y : ℤ) (e : ℕ) where

@@ -1,9 +1,11 @@
--- By the test of the upper bounds. Assumes nothing.
+-- By the test of the upper bounds, read as what it says of them, so that its words are free. Assumes nothing.
 use mathlib.Core.Path.{_≡_, refl, sym, ap, ap₂, _∙_}
-use mathlib.Core.Bool.{Bool, cond}
+use mathlib.Core.Bool.{Bool, true, false, cond}
 use borrow.Author.Needs.{needs}
 use lib.Signed.{ltZ}
+use Rattle.integers.specs.Order.{_≼_, _≺_}
 use Rattle.integers.specs.Signed.{read64, bits}
+use Rattle.integers.specs.Tests.{lt-true, lt-false, not-le-true, not-le-false, true-lt, false-lt}
 use Rattle.model.specs.Boxes.{lesser}
 use Rattle.distance.proofs.with_leaf.Statement.{statement}
 use Rattle.distance.proofs.with_leaf.Tie as tie
@@ -24,8 +26,11 @@ module _ (c : tie.After-struct-told4) where
   later-is : bits (start .args .leaf .hi) ≡ start .args .leaf .hi
   later-is = read64 (start .args .leaf .hi) (c .struct-told4 .given .1 .0 .1)
 
-  tested : {t : Bool} → ltZ (bits (start .args .leaf .hi)) (bits (start .args .found .hi)) ≡ t → t ≡ ltZ (start .args .leaf .hi) (start .args .found .hi)
-  tested e = sym e ∙ ap₂ ltZ later-is first-is
+  falls : bits (start .args .leaf .hi) ≺ bits (start .args .found .hi) → true ≡ ltZ (start .args .leaf .hi) (start .args .found .hi)
+  falls h = sym (true-lt h) ∙ ap₂ ltZ later-is first-is
+
+  stays : bits (start .args .found .hi) ≼ bits (start .args .leaf .hi) → false ≡ ltZ (start .args .leaf .hi) (start .args .found .hi)
+  stays h = sym (false-lt h) ∙ ap₂ ltZ later-is first-is
 
 lesser-of-requires : tie.Need-lesser-of-requires
 lesser-of-requires c κs = search needs
@@ -34,7 +39,8 @@ returns : tie.Need-returns
 returns c =
     let d = c .before in
     let s = start d in
-    let e = tested d (c .if1 .taken) in
+    let h : bits (s .args .leaf .hi) ≺ bits (s .args .found .hi) = search (c .if1 .taken, lt-true, not-le-true) in
+    let e = falls d h in
     record {
       lo-is = low-is d;
       hi-is = later-is d ∙ ap (λ (t : Bool). cond t (s .args .leaf .hi) (s .args .found .hi)) e;
@@ -46,7 +52,8 @@ returns-2 : tie.Need-returns-2
 returns-2 c =
     let d = c .before in
     let s = start d in
-    let e = tested d (c .if1 .left) in
+    let h : bits (s .args .found .hi) ≼ bits (s .args .leaf .hi) = search (c .if1 .left, lt-false, not-le-false) in
+    let e = stays d h in
     record {
       lo-is = low-is d;
       hi-is = first-is d ∙ ap (λ (t : Bool). cond t (s .args .leaf .hi) (s .args .found .hi)) e;
