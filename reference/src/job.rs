@@ -127,16 +127,16 @@ fn is_coordinate(number: i32) -> bool {
 
 /// Refuses a job that is not legal, with the lowest of 2, 3 and 4.
 pub fn judge(job: &Job) -> Result<(), Refusal> {
-    // The origin is always in range, so it adds no refusal.
-    judge_with_spot(job, 0, 0)
+    judge_with_spots(job, &[])
 }
 
-/// As [`judge`], with the asked point among the numbers whose range counts.
-pub fn judge_with_spot(job: &Job, x: i32, y: i32) -> Result<(), Refusal> {
+/// As [`judge`], with all numbers of the asked spots among those whose range
+/// counts.
+pub fn judge_with_spots(job: &Job, spots: &[i32]) -> Result<(), Refusal> {
     if !job.count_is_right() {
         return Err(Refusal::Edges);
     }
-    if !(job.numbers_are_right() && is_coordinate(x) && is_coordinate(y)) {
+    if !(job.numbers_are_right() && spots.iter().copied().all(is_coordinate)) {
         return Err(Refusal::Range);
     }
     if !job.cell_is_right() {

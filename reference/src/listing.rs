@@ -30,7 +30,15 @@ pub fn store(numbers: &[i32]) -> String {
 
 /// The bounds on a point's distance.
 pub fn point(nearest: &Nearest) -> String {
-    format!("(point {} {} {})\n", nearest.lo, nearest.hi, nearest.edge)
+    points(&nearest.numbers())
+}
+
+/// The same for each three numbers of a reply, a line each.
+pub fn points(reply: &[i64]) -> String {
+    let lines = reply.as_chunks().0.iter();
+    lines
+        .map(|[lo, hi, edge]| format!("(point {lo} {hi} {edge})\n"))
+        .collect()
 }
 
 /// How many nodes a lookup read.

@@ -1,8 +1,8 @@
-//! The command-line program: the rules' program as `map`, and five more
+//! The command-line program: the rules' program as `map`, and six more
 //! commands for comparing it with another implementation.
 
-use clearance_reference::{judge_with_spot, listing, map, point_with_reads, probe, read};
-use clearance_reference::{trees, write, Job, Lookup, Refusal, SHEET_LIMIT};
+use clearance_reference::{listing, map, point_with_reads, points, probe, read};
+use clearance_reference::{reply_length, trees, write, Job, Lookup, Refusal, SHEET_LIMIT};
 use std::io::{self, Read, Write};
 use std::process::ExitCode;
 
@@ -15,13 +15,14 @@ const USAGE: &str = "\
 usage: clearance-reference COMMAND < SHEET
 
 Reads a job sheet from standard input.
-  map        write the clearance map
-  store      write the trees, a node a line, for any number of nodes
-  point X Y  write (point LO HI EDGE), fine units squared
-  reads X Y  write (reads N), the nodes read for the same point
-  write      write the sheet back
-  probe      write the answers to a fixed battery of points and stores
-  --help     write this text
+  map            write the clearance map
+  store          write the trees, a node a line, for any number of nodes
+  point X Y      write (point LO HI EDGE), fine units squared
+  points X Y...  write such a line for each of up to 256 spots
+  reads X Y      write (reads N), the nodes read for the same point
+  write          write the sheet back
+  probe          write the answers to a fixed battery of points and stores
+  --help         write this text
 
 A refusal is written as (refused NUMBER).
 ";
@@ -30,6 +31,7 @@ enum Command {
     Map,
     Store,
     Point(i32, i32),
+    Points(Vec<i32>),
     Reads(i32, i32),
     Write,
     Probe,
@@ -40,6 +42,7 @@ fn command(arguments: &[&str]) -> Option<Command> {
         ["map"] => Some(Command::Map),
         ["store"] => Some(Command::Store),
         ["point", x, y] => Some(Command::Point(x.parse().ok()?, y.parse().ok()?)),
+        ["points", numbers @ ..] => Some(Command::Points(parsed(numbers)?)),
         ["reads", x, y] => Some(Command::Reads(x.parse().ok()?, y.parse().ok()?)),
         ["write"] => Some(Command::Write),
         ["probe"] => Some(Command::Probe),
@@ -47,12 +50,22 @@ fn command(arguments: &[&str]) -> Option<Command> {
     }
 }
 
-/// The lookup of a spot in a store of the job's own.
+/// Any count of numbers, or nothing if one of them is none.
+fn parsed(numbers: &[&str]) -> Option<Vec<i32>> {
+    numbers.iter().map(|number| number.parse().ok()).collect()
+}
+
+/// The lookup of a spot in a store of the job's own. A job that has none is
+/// refused before any store is looked at.
 fn asked(job: &Job, x: i32, y: i32) -> Result<Lookup, Refusal> {
-    // The spot's range comes before the length of the pieces.
-    judge_with_spot(job, x, y)?;
-    let numbers = trees::store_numbers(&trees::grow(job)?);
-    point_with_reads(job, x, y, &numbers)
+    point_with_reads(job, x, y, &trees::own_store(job))
+}
+
+/// The reply to a sheaf of spots, from a store of the job's own likewise.
+fn asked_together(job: &Job, spots: &[i32]) -> Result<Vec<i64>, Refusal> {
+    let mut reply = vec![0; reply_length(spots)];
+    points(job, spots, &trees::own_store(job), &mut reply)?;
+    Ok(reply)
 }
 
 /// What the program writes for a sheet, or why it is refused.
@@ -71,6 +84,7 @@ fn answer(command: &Command, sheet: &[u8]) -> Result<Vec<u8>, Refusal> {
             Ok(listing::store(&numbers).into())
         }
         Command::Point(x, y) => Ok(listing::point(&asked(&job, x, y)?.nearest).into()),
+        Command::Points(ref spots) => Ok(listing::points(&asked_together(&job, spots)?).into()),
         Command::Reads(x, y) => Ok(listing::reads(&asked(&job, x, y)?).into()),
         Command::Write => {
             let mut lent = [0; SHEET_LIMIT];

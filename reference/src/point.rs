@@ -23,6 +23,14 @@ pub struct Nearest {
     pub edge: usize,
 }
 
+impl Nearest {
+    /// lo, hi and the edge, as a reply has them.
+    pub fn numbers(&self) -> [i64; 3] {
+        // There are 64 edges at most.
+        [self.lo, self.hi, self.edge as i64]
+    }
+}
+
 /// The bounds, and what it took to find them.
 #[derive(Clone, Copy, Debug, PartialEq, Eq)]
 pub struct Lookup {

@@ -5,7 +5,7 @@
 use crate::entries::point_with_reads;
 use crate::job::Job;
 use crate::listing;
-use crate::trees::{grow, store_numbers, NUMBERS_A_NODE};
+use crate::trees::{own_store, NUMBERS_A_NODE};
 
 /// The point that the damaged stores are asked about.
 const SPOT: [i32; 2] = [3, 4];
@@ -14,7 +14,7 @@ const NUMBERS_WITHOUT_BOX: usize = 7;
 
 /// The answers, a line each.
 pub fn battery(job: &Job) -> String {
-    let store = grow(job).map_or_else(|_| Vec::new(), |trees| store_numbers(&trees));
+    let store = own_store(job);
     let mut text = String::new();
     for spot in spots(job) {
         text += &answer(job, spot, &store);

@@ -1,4 +1,4 @@
-//! The eight refusals of RULES, "Refusals".
+//! The nine refusals of RULES, "Refusals".
 
 use std::fmt;
 
@@ -17,15 +17,17 @@ pub enum Refusal {
     Long,
     /// 6: the lent store is too small for the trees.
     Store,
-    /// 7: the lent map or sheet is too small.
+    /// 7: the lent map, sheet or reply is too small.
     Space,
     /// 8: the lent store holds other trees.
     Stranger,
+    /// 9: no spots, too many, or a spot without its second number.
+    Sheaf,
 }
 
 impl Refusal {
     /// All of them, in the order of their numbers.
-    pub const ALL: [Refusal; 8] = [
+    pub const ALL: [Refusal; 9] = [
         Refusal::Form,
         Refusal::Edges,
         Refusal::Range,
@@ -34,6 +36,7 @@ impl Refusal {
         Refusal::Store,
         Refusal::Space,
         Refusal::Stranger,
+        Refusal::Sheaf,
     ];
 
     /// Its number.
@@ -47,6 +50,7 @@ impl Refusal {
             Refusal::Store => 6,
             Refusal::Space => 7,
             Refusal::Stranger => 8,
+            Refusal::Sheaf => 9,
         }
     }
 
@@ -61,6 +65,7 @@ impl Refusal {
             Refusal::Store => "store",
             Refusal::Space => "space",
             Refusal::Stranger => "stranger",
+            Refusal::Sheaf => "sheaf",
         }
     }
 }

@@ -122,6 +122,11 @@ pub fn grow(job: &Job) -> Result<Vec<Tree>, Refusal> {
         .collect()
 }
 
+/// The numbers of the job's own trees; none where they cannot be grown.
+pub fn own_store(job: &Job) -> Vec<i32> {
+    grow(job).map_or_else(|_| Vec::new(), |trees| store_numbers(&trees))
+}
+
 /// How many nodes the trees have together.
 pub fn node_count(trees: &[Tree]) -> usize {
     trees.iter().map(Tree::nodes).sum()

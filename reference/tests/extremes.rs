@@ -4,7 +4,7 @@
 mod common;
 
 use clearance_reference::strips::{Piece, Strip};
-use clearance_reference::{map, point, write, Edge, Job, Refusal, COORDINATE_LIMIT};
+use clearance_reference::{map, point, points, write, Edge, Job, Refusal, COORDINATE_LIMIT};
 use common::finished;
 use common::random::Xorshift;
 use common::reckoning::check_strip;
@@ -80,6 +80,13 @@ fn wild_jobs_get_a_result_or_a_refusal() {
         let asked = point(&job, x, y, &store);
         assert!(written.is_ok() || mapped.is_err());
         assert!(mapped.is_ok() || asked.is_err());
+        // A sheaf of one gets just the same, and so does the same spot twice.
+        let mut reply = [7; 3];
+        let together = points(&job, &[x, y], &store, &mut reply);
+        assert_eq!(together.err(), asked.err());
+        assert_eq!(reply, asked.map_or([7; 3], |nearest| nearest.numbers()));
+        let doubled = points(&job, &[x, y, x, y], &store, &mut [7; 6]);
+        assert_eq!(doubled, together);
         accepted += usize::from(mapped.is_ok());
     }
     assert!(accepted > 1_000, "{accepted}");

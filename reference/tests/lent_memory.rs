@@ -2,7 +2,7 @@
 
 mod common;
 
-use clearance_reference::{map, write, Job};
+use clearance_reference::{map, points, reply_length, write, Job};
 use common::jobs::random_job;
 use common::random::Xorshift;
 use common::{finished, job_with, long_edge, point_edge, sample_job};
@@ -98,5 +98,74 @@ fn memory_past_a_sheet_is_kept() {
         let mut lent: Vec<u8> = (0..8_192).map(mark).collect();
         assert!(write(&unfit, &mut lent).is_err());
         check_marks(&[], 0, &lent, 0);
+    }
+}
+
+/// Asks with a reply full of marks and gives it back with what was written.
+fn ask_over_marks(job: &Job, row: &[i32], store: &[i32], length: usize) -> (bool, Vec<i64>) {
+    let mut reply: Vec<i64> = (0..length).map(reply_mark).collect();
+    let accepted = points(job, row, store, &mut reply).is_ok();
+    (accepted, reply)
+}
+
+/// A mark that is no bound and no edge.
+fn reply_mark(index: usize) -> i64 {
+    i64::MIN + index as i64
+}
+
+/// That the numbers of a reply from this place on still are the marks.
+fn check_reply_marks(reply: &[i64], first: usize) {
+    for (i, &number) in reply.iter().enumerate().skip(first) {
+        assert_eq!(number, reply_mark(i));
+    }
+}
+
+#[test]
+fn a_refused_sheaf_changes_nothing() {
+    let deep = job_with(&[point_edge(0), long_edge()], 489);
+    let long = Job {
+        grain: 488,
+        ..deep.clone()
+    };
+    let store = finished(&deep).unwrap().store;
+    let mut changed = store.clone();
+    *changed.last_mut().unwrap() += 1;
+    let row = [5; 512];
+    let mut last_bad = row;
+    last_bad[511] = 1_000_001;
+    assert!(ask_over_marks(&deep, &row, &store, 768).0);
+    for (job, row, store, length) in [
+        (&Job::ZERO, &row[..], &store[..], 768),
+        (&deep, &last_bad, &store, 768),
+        (&deep, &row[1..], &store, 768),
+        (&deep, &[5; 514], &store, 800),
+        (&deep, &[], &store, 768),
+        (&long, &row, &store, 768),
+        (&deep, &row, &store[..store.len() - 1], 768),
+        (&deep, &row, &store, 767),
+        (&deep, &row, &changed, 768),
+        (&deep, &row, &changed, 800),
+    ] {
+        let (accepted, reply) = ask_over_marks(job, row, store, length);
+        assert!(!accepted);
+        check_reply_marks(&reply, 0);
+    }
+}
+
+#[test]
+fn memory_past_a_reply_is_kept() {
+    let mut rng = Xorshift::new(0x3c6e_f372);
+    for _ in 0..300 {
+        let job = random_job(&mut rng, 0);
+        let Ok(done) = finished(&job) else { continue };
+        let spots = rng.choose(&[1, 2, 9, 256]);
+        let row: Vec<i32> = (0..2 * spots).map(|_| rng.between(-999, 999)).collect();
+        let length = reply_length(&row);
+        for more in [0, 1, 3, 400] {
+            let (accepted, reply) = ask_over_marks(&job, &row, &done.store, length + more);
+            assert!(accepted);
+            assert!(reply[..length].iter().all(|&number| number >= 0));
+            check_reply_marks(&reply, length);
+        }
     }
 }

@@ -5,7 +5,7 @@ mod common;
 
 use clearance_reference::strips::{Piece, Strip};
 use clearance_reference::Refusal::{Edges, Form, Long, Range};
-use clearance_reference::{judge, listing, map, point, read, write, Edge, Job, Refusal};
+use clearance_reference::{judge, listing, map, point, points, read, write, Edge, Job, Refusal};
 use common::random::Xorshift;
 use common::{edge, finished, job_with, line, point_edge, sample_job, Finished};
 use common::{SAMPLE_MAP, SAMPLE_SHEET};
@@ -235,6 +235,7 @@ fn check_job(job: &Job, refusal: Refusal) {
     assert_eq!(write(job, &mut [0; 8_192]), Err(refusal));
     assert_eq!(map(job, &mut [0; 700], &mut [0; 64]), Err(refusal));
     assert_eq!(point(job, 0, 0, &[0; 11]), Err(refusal));
+    assert_eq!(points(job, &[0, 0], &[0; 11], &mut [0; 3]), Err(refusal));
 }
 
 #[test]

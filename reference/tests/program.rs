@@ -46,6 +46,11 @@ fn the_sample() {
     assert_eq!(point, "(point 6400 6400 0)\n");
     let point = printed(&["point", "-3", "-4"], SAMPLE_SHEET);
     assert_eq!(point, "(point 6400 6400 0)\n");
+    let points = printed(&["points", "3", "4", "0", "0", "-3", "-4"], SAMPLE_SHEET);
+    assert_eq!(
+        points,
+        "(point 6400 6400 0)\n(point 0 0 0)\n(point 6400 6400 0)\n"
+    );
     let reads = printed(&["reads", "3", "4"], SAMPLE_SHEET);
     assert_eq!(reads, "(reads 1)\n");
 }
@@ -69,6 +74,8 @@ fn refusals_of_the_sheet() {
             &["map"][..],
             &["store"],
             &["point", "0", "0"],
+            &["points", "0", "0", "0", "0"],
+            &["points"],
             &["reads", "0", "0"],
             &["write"],
             &["probe"],
@@ -102,6 +109,37 @@ fn refusals_of_the_trees() {
     assert_eq!(point, "(point 0 244140625 0)\n");
     let reads = printed(&["reads", "500000", "0"], &too_many);
     assert_eq!(reads, "(reads 1043)\n");
+}
+
+/// Ranges, then the count of numbers, then the length of pieces.
+#[test]
+fn refusals_of_a_sheaf() {
+    let [long, deep] = [488, 489].map(long_sheet);
+    let most = ["0"; 512];
+    let too_many = ["0"; 514];
+    for (numbers, of_sample, of_long) in [
+        (&["0", "0"][..], "(point 0 0 0)\n", "(refused 5)\n"),
+        (&most, &"(point 0 0 0)\n".repeat(256), "(refused 5)\n"),
+        (&[], "(refused 9)\n", "(refused 9)\n"),
+        (&["0"], "(refused 9)\n", "(refused 9)\n"),
+        (&["0", "0", "0"], "(refused 9)\n", "(refused 9)\n"),
+        (&too_many, "(refused 9)\n", "(refused 9)\n"),
+        (&["1000001"], "(refused 3)\n", "(refused 3)\n"),
+        (
+            &["0", "0", "0", "-1000001"],
+            "(refused 3)\n",
+            "(refused 3)\n",
+        ),
+    ] {
+        let arguments = [&["points"], numbers].concat();
+        assert_eq!(printed(&arguments, SAMPLE_SHEET), of_sample);
+        assert_eq!(printed(&arguments, &long), of_long);
+    }
+    let points = printed(&["points", "0", "0", "999999", "0"], &deep);
+    assert_eq!(points.lines().count(), 2);
+    for (line, x) in points.lines().zip(["0", "999999"]) {
+        assert_eq!(printed(&["point", x, "0"], &deep), format!("{line}\n"));
+    }
 }
 
 /// A level line of 2^d times 2 has pieces of depth d that just are short at
@@ -142,6 +180,8 @@ fn usage() {
         &["point", "1", "x"],
         &["point", "1", "99999999999"],
         &["point", "1", "2", "3"],
+        &["points", "x"],
+        &["points", "1", "2", "3", "99999999999"],
         &["reads"],
         &["reads", "1"],
         &["reads", "x", "1"],
@@ -152,7 +192,8 @@ fn usage() {
         assert!(output.stdout.is_empty() && !output.stderr.is_empty());
     }
     let help = printed(&["--help"], "");
-    for word in ["map", "store", "point X Y", "reads X Y", "write", "probe"] {
+    let words = ["map", "store", "point X Y", "points X Y...", "reads X Y"];
+    for word in words.into_iter().chain(["write", "probe"]) {
         assert!(help.contains(word));
     }
 }

@@ -2,8 +2,8 @@
 
 mod common;
 
-use clearance_reference::Refusal::{Cell, Edges, Form, Long, Range, Space, Store, Stranger};
-use clearance_reference::{judge, map, point, read, write, Job, Refusal};
+use clearance_reference::Refusal::{Cell, Edges, Form, Long, Range, Sheaf, Space, Store, Stranger};
+use clearance_reference::{judge, map, point, points, read, write, Job, Refusal};
 use common::{edge, finished, job_with, just_short_edge, long_edge};
 use common::{point_edge, sample_job, SAMPLE_SHEET};
 
@@ -39,6 +39,11 @@ fn check_job(job: &Job, refusal: Refusal) {
     assert_eq!(map(job, &mut [], &mut []), Err(refusal));
     assert_eq!(point(job, 0, 0, &SAMPLE_STORE), Err(refusal));
     assert_eq!(point(job, 0, 0, &[]), Err(refusal));
+    assert_eq!(
+        points(job, &[0, 0], &SAMPLE_STORE, &mut [0; 3]),
+        Err(refusal)
+    );
+    assert_eq!(points(job, &[], &[], &mut []), Err(refusal));
 }
 
 fn sample_with(change: impl Fn(&mut Job)) -> Job {
@@ -50,8 +55,9 @@ fn sample_with(change: impl Fn(&mut Job)) -> Job {
 #[test]
 fn numbers_and_words() {
     let words = [
-        "form", "edges", "range", "cell", "long", "store", "space", "stranger",
+        "form", "edges", "range", "cell", "long", "store", "space", "stranger", "sheaf",
     ];
+    assert_eq!(Refusal::ALL.len(), words.len());
     for (index, refusal) in Refusal::ALL.into_iter().enumerate() {
         assert_eq!(usize::from(refusal.number()), index + 1);
         assert_eq!(refusal.word(), words[index]);
@@ -292,6 +298,120 @@ fn the_spot_of_a_point() {
     }
     for (x, y) in [(1_000_000, -1_000_000), (-1_000_000, 1_000_000)] {
         assert!(point(&sample_job(), x, y, &store).is_ok());
+    }
+}
+
+/// A call of `points`, without a fault until one is put in.
+#[derive(Clone)]
+struct Call {
+    job: Job,
+    row: Vec<i32>,
+    store: Vec<i32>,
+    reply: Vec<i64>,
+}
+
+impl Call {
+    /// Three spots with exactly the memory they need. A finer grain makes it long.
+    fn good() -> Call {
+        let job = job_with(&[point_edge(7), long_edge()], 489);
+        let store = finished(&job).unwrap().store;
+        Call {
+            job,
+            row: vec![3, 4, 5, 6, -7, -8],
+            store,
+            reply: vec![7; 9],
+        }
+    }
+
+    fn result(&mut self) -> Result<(), Refusal> {
+        points(&self.job, &self.row, &self.store, &mut self.reply)
+    }
+}
+
+/// A fault by the refusal it is for.
+type Fault = (Refusal, fn(&mut Call));
+
+/// The order in which a sheaf's faults are looked for, two ways to each.
+const SHEAF_FAULTS: [[Fault; 2]; 8] = [
+    [
+        (Edges, |call| call.job.count = 0),
+        (Edges, |call| call.job.count = 65),
+    ],
+    [
+        (Range, |call| call.job.reach = 0),
+        (Range, |call| call.row.push(1_000_001)),
+    ],
+    [
+        (Cell, |call| call.job.m = 5),
+        (Cell, |call| call.job.n = 20),
+    ],
+    [
+        (Sheaf, |call| call.row.insert(0, 1)),
+        (Sheaf, |call| call.row.splice(0..0, [9; 512]).for_each(drop)),
+    ],
+    [
+        (Long, |call| call.job.grain = 488),
+        (Long, |call| call.job.grain = 1),
+    ],
+    [
+        (Store, |call| call.store.truncate(22_527)),
+        (Store, |call| call.store.clear()),
+    ],
+    [
+        (Space, |call| call.reply.truncate(8)),
+        (Space, |call| call.reply.clear()),
+    ],
+    [
+        (Stranger, |call| call.store.fill(0)),
+        (Stranger, |call| {
+            call.store
+                .iter_mut()
+                .rev()
+                .take(1)
+                .for_each(|last| *last += 1)
+        }),
+    ],
+];
+
+/// Any set of faults at once: the first of them in this order is given.
+#[test]
+fn the_order_of_a_sheafs_refusals() {
+    let good = Call::good();
+    assert_eq!(good.clone().result(), Ok(()));
+    for set in 1..1_u32 << SHEAF_FAULTS.len() {
+        for ways in 0..4 {
+            let mut call = good.clone();
+            let mut first = None;
+            for (index, both) in SHEAF_FAULTS.iter().enumerate() {
+                if set >> index & 1 == 1 {
+                    // The same way of all, or one and the other in turn.
+                    let (refusal, put_in) = both[(ways >> (index % 2)) as usize & 1];
+                    put_in(&mut call);
+                    first = first.or(Some(refusal));
+                }
+            }
+            assert_eq!(call.result().err(), first, "{set:b} {ways}");
+            assert!(call.reply.iter().all(|&number| number == 7));
+        }
+    }
+}
+
+/// The refusals of the spot's own range, in any spot and either number.
+#[test]
+fn the_spots_of_a_sheaf() {
+    let no_edges = sample_with(|job| job.count = 0);
+    let bad_cell = sample_with(|job| job.m = 5);
+    let long = job_with(&[long_edge()], 488);
+    for place in 0..6 {
+        for number in [1_000_001, -1_000_001, i32::MIN, i32::MAX] {
+            let mut row = [0; 6];
+            row[place] = number;
+            let ask = |job: &Job| points(job, &row, &SAMPLE_STORE, &mut [0; 9]);
+            assert_eq!(ask(&sample_job()), Err(Range));
+            assert_eq!(ask(&no_edges), Err(Edges));
+            assert_eq!(ask(&bad_cell), Err(Range));
+            assert_eq!(ask(&long), Err(Range));
+        }
     }
 }
 
