@@ -19,6 +19,7 @@ pub mod listing;
 mod plate;
 mod point;
 pub mod probe;
+pub mod probe_rows;
 mod refusal;
 mod sheet;
 pub mod strips;

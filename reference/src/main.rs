@@ -1,7 +1,7 @@
-//! The command-line program: the rules' program as `map`, and six more
+//! The command-line program: the rules' program as `map`, and seven more
 //! commands for comparing it with another implementation.
 
-use clearance_reference::{listing, map, point_with_reads, points, probe, read};
+use clearance_reference::{listing, map, point_with_reads, points, probe, probe_rows, read};
 use clearance_reference::{reply_length, trees, write, Job, Lookup, Refusal, SHEET_LIMIT};
 use std::io::{self, Read, Write};
 use std::process::ExitCode;
@@ -22,6 +22,7 @@ Reads a job sheet from standard input.
   reads X Y      write (reads N), the nodes read for the same point
   write          write the sheet back
   probe          write the answers to a fixed battery of points and stores
+  probe-rows     write the answers to a fixed battery of rows of points
   --help         write this text
 
 A refusal is written as (refused NUMBER).
@@ -35,6 +36,7 @@ enum Command {
     Reads(i32, i32),
     Write,
     Probe,
+    ProbeRows,
 }
 
 fn command(arguments: &[&str]) -> Option<Command> {
@@ -46,6 +48,7 @@ fn command(arguments: &[&str]) -> Option<Command> {
         ["reads", x, y] => Some(Command::Reads(x.parse().ok()?, y.parse().ok()?)),
         ["write"] => Some(Command::Write),
         ["probe"] => Some(Command::Probe),
+        ["probe-rows"] => Some(Command::ProbeRows),
         _ => None,
     }
 }
@@ -92,6 +95,7 @@ fn answer(command: &Command, sheet: &[u8]) -> Result<Vec<u8>, Refusal> {
             Ok(lent[..length].to_vec())
         }
         Command::Probe => Ok(probe::battery(&job).into()),
+        Command::ProbeRows => Ok(probe_rows::battery(&job).into()),
     }
 }
 

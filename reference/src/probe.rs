@@ -8,7 +8,7 @@ use crate::listing;
 use crate::trees::{own_store, NUMBERS_A_NODE};
 
 /// The point that the damaged stores are asked about.
-const SPOT: [i32; 2] = [3, 4];
+pub(crate) const SPOT: [i32; 2] = [3, 4];
 /// Numbers of a node without its box.
 const NUMBERS_WITHOUT_BOX: usize = 7;
 
@@ -27,7 +27,7 @@ pub fn battery(job: &Job) -> String {
 
 /// Points in, on and past the range, and those of the first edge's place. The
 /// last numbers of a line's place are zeros, so there two are the origin again.
-fn spots(job: &Job) -> [[i32; 2]; 10] {
+pub(crate) fn spots(job: &Job) -> [[i32; 2]; 10] {
     let [x0, y0, x1, y1, x2, y2, x3, y3, ..] = job.places;
     [
         [0, 0],
@@ -48,24 +48,28 @@ fn spots(job: &Job) -> [[i32; 2]; 10] {
 /// Those with a change are made only as they are asked, since each may be large.
 fn stores(store: &[i32]) -> impl Iterator<Item = Vec<i32>> + '_ {
     let nodes = store.len() / NUMBERS_A_NODE;
-    let lengths = [
-        [store, &[0]].concat(),
-        store[..store.len().saturating_sub(1)].to_vec(),
-        Vec::new(),
-    ];
     let numbers = [0, nodes / 2, nodes.saturating_sub(1)]
         .into_iter()
         .flat_map(|node| (0..NUMBERS_A_NODE).map(move |place| NUMBERS_A_NODE * node + place));
     let changes = numbers.map(|index| changed(store, index));
-    lengths
+    lengths(store)
         .into_iter()
         .chain(changes)
         .chain([without_boxes(store)])
 }
 
+/// The store with one number more, with one less, and none of it.
+pub(crate) fn lengths(store: &[i32]) -> [Vec<i32>; 3] {
+    [
+        [store, &[0]].concat(),
+        store[..store.len().saturating_sub(1)].to_vec(),
+        Vec::new(),
+    ]
+}
+
 /// The store with one number raised by 1; the empty store as it is. The numbers
 /// of a store are far from the end of 32 bits.
-fn changed(store: &[i32], index: usize) -> Vec<i32> {
+pub(crate) fn changed(store: &[i32], index: usize) -> Vec<i32> {
     let mut store = store.to_vec();
     if let Some(number) = store.get_mut(index) {
         *number += 1;

@@ -79,6 +79,7 @@ fn refusals_of_the_sheet() {
             &["reads", "0", "0"],
             &["write"],
             &["probe"],
+            &["probe-rows"],
         ] {
             assert_eq!(printed(arguments, sheet), wanted);
         }
@@ -193,7 +194,7 @@ fn usage() {
     }
     let help = printed(&["--help"], "");
     let words = ["map", "store", "point X Y", "points X Y...", "reads X Y"];
-    for word in words.into_iter().chain(["write", "probe"]) {
+    for word in words.into_iter().chain(["write", "probe", "probe-rows"]) {
         assert!(help.contains(word));
     }
 }

@@ -1,0 +1,133 @@
+//! A second fixed battery of questions about one job, rows of spots: alone and
+//! together, rows that are no sheaf, and a reply or store that does not suit. A
+//! test program of another implementation asks the same and is compared with the
+//! text.
+
+use crate::entries::{points, reply_length, SPOT_LIMIT};
+use crate::job::Job;
+use crate::listing;
+use crate::probe::{changed, lengths, spots, SPOT};
+use crate::refusal::Refusal;
+use crate::trees::own_store;
+
+/// Every number of a reply beforehand.
+const BEFORE: i64 = 7;
+/// So many spots, the first, are in range if the job is legal.
+const IN_RANGE: usize = 8;
+/// A reply that is one number short for two spots.
+const SHORT_REPLY: usize = 5;
+
+/// The answers: first of the job's own store, then of others.
+pub fn battery(job: &Job) -> String {
+    let store = own_store(job);
+    let twice = [SPOT; 2].concat();
+    let mut text = String::new();
+    for row in rows(job) {
+        text += &answer(job, &row, &store, longer_reply(&row));
+    }
+    text += &answer(job, &twice, &store, SHORT_REPLY);
+    for store in stores(&store) {
+        text += &answer(job, &twice, &store, longer_reply(&twice));
+    }
+    text
+}
+
+/// One number more than the spots need, to see that it is kept.
+fn longer_reply(row: &[i32]) -> usize {
+    reply_length(row) + 1
+}
+
+/// Each spot alone; two of them in both orders, and one twice; eight and all ten;
+/// the most spots, and one more; then none, an odd count, and a row with several
+/// faults.
+fn rows(job: &Job) -> Vec<Vec<i32>> {
+    let all = spots(job);
+    let some = &all[..IN_RANGE];
+    let control = all[3];
+    let around = |count| some.iter().copied().cycle().take(count).flatten().collect();
+    let mut rows: Vec<Vec<i32>> = all.iter().map(|spot| spot.to_vec()).collect();
+    rows.extend([
+        [SPOT, control].concat(),
+        [control, SPOT].concat(),
+        [SPOT; 2].concat(),
+        some.concat(),
+        all.concat(),
+        around(SPOT_LIMIT),
+        around(SPOT_LIMIT + 1),
+        Vec::new(),
+        some.as_flattened()[..2 * IN_RANGE - 1].to_vec(),
+        far_last(),
+    ]);
+    rows
+}
+
+/// Too many numbers, an odd count of them, and only the last out of its range.
+fn far_last() -> Vec<i32> {
+    let mut row = vec![0; 2 * SPOT_LIMIT + 2];
+    row.push(2_000_000);
+    row
+}
+
+/// One number more, one less, none; then the last number changed.
+fn stores(store: &[i32]) -> impl Iterator<Item = Vec<i32>> {
+    let last = store.len().saturating_sub(1);
+    lengths(store).into_iter().chain([changed(store, last)])
+}
+
+fn answer(job: &Job, row: &[i32], store: &[i32], length: usize) -> String {
+    let mut reply = vec![BEFORE; length];
+    match points(job, row, store, &mut reply) {
+        Ok(()) => accepted(&reply, reply_length(row)),
+        Err(refusal) => refused(refusal, &reply),
+    }
+}
+
+/// A line a spot, but where the spots go around and the reply with them; and the
+/// first number behind the reply.
+fn accepted(reply: &[i64], written: usize) -> String {
+    let (replies, _) = reply[..written].as_chunks::<3>();
+    let mut text = String::new();
+    for (index, numbers) in replies.iter().enumerate() {
+        if index < IN_RANGE || *numbers != replies[index - IN_RANGE] {
+            text += &listing::points(numbers);
+        }
+    }
+    text + &format!("(past {})\n", reply[written])
+}
+
+/// The refusal, and how many numbers of the reply were written nevertheless.
+fn refused(refusal: Refusal, reply: &[i64]) -> String {
+    let changed = reply.iter().filter(|&&number| number != BEFORE).count();
+    format!(
+        "{} (changed {changed})\n",
+        listing::refusal(refusal).trim_end()
+    )
+}
+
+#[cfg(test)]
+mod tests {
+    use super::{accepted, listing, refused, Refusal};
+
+    /// Only a reply that does not go around with its spots has a line of its own.
+    #[test]
+    fn replies_past_the_eighth() {
+        let around: Vec<i64> = (0..48).map(|index| index % 24).collect();
+        let eight = listing::points(&around[..24]);
+        let accept = |reply: &[i64]| accepted(&[reply, &[7]].concat(), reply.len());
+        assert_eq!(accept(&around[..24]), eight.clone() + "(past 7)\n");
+        assert_eq!(accept(&around), eight.clone() + "(past 7)\n");
+        for place in 24..48 {
+            let mut other = around.clone();
+            other[place] += 1;
+            let spot = place / 3 * 3;
+            let line = listing::points(&other[spot..spot + 3]);
+            assert_eq!(accept(&other), format!("{eight}{line}(past 7)\n"));
+        }
+    }
+
+    #[test]
+    fn numbers_written_in_spite_of_a_refusal() {
+        let line = refused(Refusal::Sheaf, &[7, 6_400, 7, 0, -7]);
+        assert_eq!(line, "(refused 9) (changed 3)\n");
+    }
+}
