@@ -16,3 +16,4 @@ expect() {
 expect sheet_cases write
 expect map_cases map
 expect point_cases probe
+expect many_point_cases probe-rows

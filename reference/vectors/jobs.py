@@ -1,5 +1,6 @@
 #!/usr/bin/env python3
-"""Writes the stored jobs of the test programs map_cases and point_cases, a file a case, and the lists of their names."""
+"""Writes the stored jobs of the test programs map_cases, point_cases and many_point_cases, a file a case, and the lists of
+their names."""
 
 import pathlib
 import random
@@ -11,6 +12,14 @@ NOT_FOR_POINTS = {
     "one_cell", "plate_as_cell", "cells_256_a_side", "reach_below_band", "reach_huge", "reach_exact",
     "straight_long", "pad_none_long", *(f"random_{k:02}" for k in range(8, 16)),
 }
+# Rows of points ask what single ones do and how they go together, so some of each kind are enough.
+FOR_MANY_POINTS = [
+    "point", "line", "parabola", "loop", "last_edge_nearest", "edges_64", "corner_at_the_end_of_range", "largest_plate",
+    "extreme_controls", "straight_489", "straight_488", "refused_2", "refused_3", "refused_4", "refused_5", "refused_1",
+    "random_00", "random_02", "straight_rounded", "straight_then_cubic", "straight_and_cubics", "pad_none", "pad_of_three",
+    "mirrored_edges", "equal_edges", "outline_around", "three_points", "three_points_at_the_second", "line_and_point",
+    "shared_ends", "example_bracket",
+]
 
 cases = {}
 
@@ -233,6 +242,7 @@ def main():
     cases["example_screen_fine"] = cases["example_screen"].replace("(grain 100)", "(grain 60)")
     store("map_cases", list(cases))
     store("point_cases", for_points + ["example_bracket", "example_washer"])
+    store("many_point_cases", FOR_MANY_POINTS)
 
 
 main()
