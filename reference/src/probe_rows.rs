@@ -3,7 +3,7 @@
 //! test program of another implementation asks the same and is compared with the
 //! text.
 
-use crate::entries::{points, reply_length, SPOT_LIMIT};
+use crate::entries::{points, reply_length};
 use crate::job::Job;
 use crate::listing;
 use crate::probe::{changed, lengths, spots, SPOT};
@@ -52,8 +52,8 @@ fn rows(job: &Job) -> Vec<Vec<i32>> {
         [SPOT; 2].concat(),
         some.concat(),
         all.concat(),
-        around(SPOT_LIMIT),
-        around(SPOT_LIMIT + 1),
+        around(256),
+        around(257),
         Vec::new(),
         some.as_flattened()[..2 * IN_RANGE - 1].to_vec(),
         far_last(),
@@ -63,7 +63,7 @@ fn rows(job: &Job) -> Vec<Vec<i32>> {
 
 /// Too many numbers, an odd count of them, and only the last out of its range.
 fn far_last() -> Vec<i32> {
-    let mut row = vec![0; 2 * SPOT_LIMIT + 2];
+    let mut row = vec![0; 514];
     row.push(2_000_000);
     row
 }
