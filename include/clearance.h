@@ -5,7 +5,7 @@
  * any order, the library builds trees of strips, one tree an edge. With them it
  * draws a map that tells for each cell of a plate whether it is clear of the
  * outline, inside its reach or doubtful, and it bounds the distance of a point
- * from the outline.
+ * from the outline, of one or of up to 256 in a call.
  *
  * Every function takes any numbers and any lengths, and gives an answer or a
  * refusal. None keeps anything between calls or asks for memory of its own.
@@ -16,12 +16,12 @@
  *
  * Lent memory. A pointer is aligned for its type and has at least as many
  * numbers or bytes as its length says. With the length 0 it is not followed and
- * may be null: that lends an empty sheet, row, store or map. A pointer without a
- * length (`job` of a read, `bytes`, `nodes`, `nearest`) is never null. Memory
- * that a function writes overlaps nothing else that it is given. What is lent as
- * const is only read. A refused call changes nothing that it is lent. An accepted
- * call writes from the start of `job`, `out`, `store` or `cells` on and changes
- * nothing past what it writes.
+ * may be null: that lends an empty sheet, row, store, map or reply. A pointer
+ * without a length (`job` of a read, `bytes`, `nodes`, `nearest`) is never null.
+ * Memory that a function writes overlaps nothing else that it is given. What is
+ * lent as const is only read. A refused call changes nothing that it is lent. An
+ * accepted call writes from the start of `job`, `out`, `store`, `cells` or `reply`
+ * on and changes nothing past what it writes.
  *
  * Jobs. A job is a row of CLEARANCE_JOB_NUMBERS numbers. A read fills such a row
  * and takes no other. The other functions take a row and its length: numbers that
@@ -41,30 +41,36 @@ extern "C" {
 #endif
 
 /* Refusals: what every function returns, and 0 where it accepts. Of several
- * that apply, the one with the lowest number is given. */
+ * that apply, read, write, map and point give the one with the lowest number;
+ * points goes by an order of its own, which stands there. */
 enum {
     CLEARANCE_ACCEPTED = 0,
     /* "form": the bytes are no job sheet. From read. */
     CLEARANCE_FORM = 1,
-    /* "edges": there are no edges, or more than 64. From all four. */
+    /* "edges": there are no edges, or more than 64. From all five. */
     CLEARANCE_EDGES = 2,
     /* "range": a number is out of its range, an edge's mark is no kind's, one of
      * a line's last four numbers is not 0, or a place or a mark past the edges
-     * holds something other than zeros. From all four. */
+     * holds something other than zeros. From all five. */
     CLEARANCE_RANGE = 3,
     /* "cell": the smallest cell is larger than the plate, or the plate is more
-     * than 256 of them wide. From all four. */
+     * than 256 of them wide. From all five. */
     CLEARANCE_CELL = 4,
     /* "long": an edge is too long for the grain, even after ten halvings.
-     * From map and point. */
+     * From map, point and points. */
     CLEARANCE_LONG = 5,
-    /* "store": `store` is too short for the trees. From map and point. */
+    /* "store": `store` is too short for the trees. From map, point and
+     * points. */
     CLEARANCE_STORE = 6,
-    /* "space": `out` or `cells` is too short. From write and map. */
+    /* "space": `out`, `cells` or `reply` is too short. From write, map and
+     * points. */
     CLEARANCE_SPACE = 7,
-    /* "stranger": `store` does not begin with the trees of this job. From
-     * point. */
-    CLEARANCE_STRANGER = 8
+    /* "stranger": `store` does not begin with the trees of this job. From point
+     * and points. */
+    CLEARANCE_STRANGER = 8,
+    /* "sheaf": there are no spots, more than 256, or an odd count of their
+     * numbers. From points. */
+    CLEARANCE_SHEAF = 9
 };
 
 /* Where the numbers of a job stand. */
@@ -133,6 +139,8 @@ enum {
 #define CLEARANCE_TREE_NODES_MOST 2047
 /* The most numbers of a store, 64 * 2047 * 11: enough for every job. */
 #define CLEARANCE_STORE_MOST 1441088
+/* The most spots of one call. */
+#define CLEARANCE_SPOTS_MOST 256
 
 /* The letters of a map. */
 /* Every point of the cell is at least the reach away from every point of the outline. */
@@ -142,7 +150,8 @@ enum {
 /* Neither is claimed. */
 #define CLEARANCE_DOUBTFUL 'D'
 
-/* Where the three numbers of a point's answer stand. */
+/* Where the three numbers of a point's answer stand; of several points the
+ * answers stand one behind the other. */
 enum {
     /* No point of the outline is nearer than this; squared fine units. */
     CLEARANCE_LO = 0,
@@ -213,6 +222,29 @@ uint8_t clearance_point(const int32_t *job, size_t job_len,
                         int32_t x, int32_t y,
                         const int32_t *store, size_t store_len,
                         int64_t nearest[CLEARANCE_NEAREST_NUMBERS]);
+
+/*
+ * Bounds the distances of several points from the outline. Each point's three
+ * numbers are those that clearance_point gives for it alone, but the store is
+ * compared with the trees once for all of them.
+ *
+ * job, job_len      any numbers
+ * spots, spots_len  x, y, x, y, ... of 1 to CLEARANCE_SPOTS_MOST points; a number
+ *                   out of -1000000 to 1000000 is refused as range, wherever it
+ *                   stands in the row: an odd last one, or one past the most
+ *                   points, too
+ * store, store_len  begins with the trees of this job, as a map call left them;
+ *                   what follows the trees does not matter
+ * reply, reply_len  lo, hi and edge of each point are written to the start, in the
+ *                   order of the spots: CLEARANCE_NEAREST_NUMBERS numbers a point
+ *
+ * Returns 0, or of CLEARANCE_EDGES, _RANGE, _CELL, _SHEAF, _LONG, _STORE, _SPACE
+ * and _STRANGER the first in this order that applies: 2, 3, 4, 9, 5, 6, 7, 8.
+ */
+uint8_t clearance_points(const int32_t *job, size_t job_len,
+                         const int32_t *spots, size_t spots_len,
+                         const int32_t *store, size_t store_len,
+                         int64_t *reply, size_t reply_len);
 
 #ifdef __cplusplus
 }
