@@ -64,5 +64,6 @@ int main(void)
     ask("short reply", two, 4, LENT - 2);
     store[0] = 1;
     ask("another store", two, 4, LENT);
+    ask("both", two, 4, LENT - 2);
     return 0;
 }

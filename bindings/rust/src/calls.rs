@@ -1,11 +1,12 @@
-//! The four calls. References make the pointers right, an empty slice's never
+//! The five calls. References make the pointers right, an empty slice's never
 //! null, and Rust keeps what is written apart from all else, so there is nothing
 //! left to check.
 
 use crate::ffi;
 use crate::job::{Job, JOB_NUMBERS};
-use crate::nearest::Nearest;
+use crate::nearest::{Nearest, NEAREST_NUMBERS};
 use crate::refusal::Refusal;
+use crate::SPOTS_MOST;
 
 /// Reads a job sheet. Refuses with 1 to 4.
 ///
@@ -106,7 +107,7 @@ pub fn map(job: &Job, store: &mut [i32], cells: &mut [u8]) -> Result<usize, Refu
 /// # Ok::<(), Refusal>(())
 /// ```
 pub fn point(job: &Job, x: i32, y: i32, store: &[i32]) -> Result<Nearest, Refusal> {
-    let mut nearest = [0; 3];
+    let mut nearest = [0; NEAREST_NUMBERS];
     // SAFETY: a job, a slice and numbers of its own, see the head of this file.
     let number = unsafe {
         ffi::clearance_point(
@@ -120,7 +121,53 @@ pub fn point(job: &Job, x: i32, y: i32, store: &[i32]) -> Result<Nearest, Refusa
         )
     };
     Refusal::check(number)?;
-    let [lo, hi, edge] = nearest;
-    let edge = usize::try_from(edge).expect("the library names an edge from 0 to 63");
-    Ok(Nearest { lo, hi, edge })
+    Ok(Nearest::of(nearest))
+}
+
+/// Bounds the distances of 1 to [`SPOTS_MOST`] points from the outline, x and y of
+/// each. They are those of [`point`], in the order of the spots, but the store is
+/// compared once for all of them. Of 2, 3, 4, 9, 5, 6 and 8, in this order, it
+/// refuses with the first that applies: a coordinate out of range comes before too
+/// many spots. Room for the answers is its own, so 7 never comes.
+///
+/// ```
+/// use clearance::{map, point, points, read, Refusal};
+///
+/// let job = read(b"(job\n(plate 0 0 1)\n(cell 0)\n(reach 90)\n(edge (0 0) (0 0) (0 0) (0 0))\n)\n")?;
+/// let (mut store, mut cells) = ([0; 11], [0; 4]);
+/// map(&job, &mut store, &mut cells)?;
+/// let spots = [[3, 4], [0, 0], [-5, 12]];
+/// let found = points(&job, &spots, &store)?;
+/// assert_eq!(found[0], point(&job, 3, 4, &store)?);
+/// assert_eq!(found.iter().map(|nearest| nearest.hi).collect::<Vec<_>>(), [6400, 0, 43264]);
+/// assert_eq!(points(&job, &[], &store), Err(Refusal::Sheaf));
+///
+/// // More spots than one call takes.
+/// let mut found = Vec::new();
+/// for some in [[3, 4]; 1_000].chunks(clearance::SPOTS_MOST) {
+///     found.extend(points(&job, some, &store)?);
+/// }
+/// assert_eq!(found.len(), 1_000);
+/// # Ok::<(), Refusal>(())
+/// ```
+pub fn points(job: &Job, spots: &[[i32; 2]], store: &[i32]) -> Result<Vec<Nearest>, Refusal> {
+    // More spots are refused before the room counts.
+    let mut reply = [0; SPOTS_MOST * NEAREST_NUMBERS];
+    let numbers = spots.as_flattened();
+    // SAFETY: a job, two slices and numbers of its own, see the head of this file.
+    let number = unsafe {
+        ffi::clearance_points(
+            job.as_ptr(),
+            JOB_NUMBERS,
+            numbers.as_ptr(),
+            numbers.len(),
+            store.as_ptr(),
+            store.len(),
+            reply.as_mut_ptr(),
+            reply.len(),
+        )
+    };
+    Refusal::check(number)?;
+    let answers = reply.as_chunks().0.iter().take(spots.len());
+    Ok(answers.copied().map(Nearest::of).collect())
 }

@@ -66,4 +66,23 @@ extern "C" {
         store_len: usize,
         nearest: *mut i64,
     ) -> u8;
+
+    /// Bounds the distances of several points, x and y of each in `spots`: lo, hi
+    /// and the first edge that gives hi of each, one behind the other. Gives the
+    /// first of 2, 3, 4, 9, 5, 6, 7 and 8, in this order, that applies. A refused
+    /// call writes nothing.
+    ///
+    /// # Safety
+    /// `job` holds `job_len` numbers, `spots` `spots_len`, `store` `store_len`, and
+    /// `reply` has `reply_len` to write, which overlap nothing else.
+    pub fn clearance_points(
+        job: *const i32,
+        job_len: usize,
+        spots: *const i32,
+        spots_len: usize,
+        store: *const i32,
+        store_len: usize,
+        reply: *mut i64,
+        reply_len: usize,
+    ) -> u8;
 }

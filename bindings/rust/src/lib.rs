@@ -2,8 +2,9 @@
 //!
 //! [`read`] and [`write()`] turn a job sheet into a [`Job`] and back, [`map`]
 //! draws the clearance map of a job, and [`point`] bounds the distance of a
-//! point from its outline. Each takes any argument whatever and gives an answer
-//! or a [`Refusal`]. Lengths are whole hundredths of a millimetre.
+//! point from its outline, [`points`] those of up to 256 at once. Each takes any
+//! argument whatever and gives an answer or a [`Refusal`]. Lengths are whole
+//! hundredths of a millimetre.
 //!
 //! Lent memory: a refused call changes nothing, and an accepted one nothing past
 //! what it writes.
@@ -37,11 +38,11 @@ mod job;
 mod nearest;
 mod refusal;
 
-pub use calls::{map, point, read, write};
+pub use calls::{map, point, points, read, write};
 pub use job::{
     Job, CUBIC, EDGES_MOST, JOB_NUMBERS, LINE, LINE_NUMBERS, MARKS, PLACES, PLACE_NUMBERS,
 };
-pub use nearest::Nearest;
+pub use nearest::{Nearest, NEAREST_NUMBERS};
 pub use refusal::Refusal;
 
 /// The most bytes of a sheet that is read.
@@ -56,6 +57,8 @@ pub const CELLS_MOST: usize = 65_536;
 pub const NODE_NUMBERS: usize = 11;
 /// The most numbers of a store: enough for every job.
 pub const STORE_MOST: usize = 1_441_088;
+/// The most spots of one call of [`points`].
+pub const SPOTS_MOST: usize = 256;
 
 // Its program runs with the examples of the documentation.
 #[cfg(doctest)]

@@ -4,7 +4,7 @@ use std::error::Error;
 use std::fmt;
 
 /// Why a call was refused. Of several reasons the one with the lowest number is
-/// given.
+/// given; [`points`](crate::points) alone goes by an order of its own.
 ///
 /// ```
 /// use clearance::{read, Refusal};
@@ -31,15 +31,19 @@ pub enum Refusal {
     Long = 5,
     /// The lent store is too short for the trees.
     Store = 6,
-    /// The lent map or sheet is too short.
+    /// The lent map or sheet is too short, or the reply of the C function for
+    /// several points.
     Space = 7,
     /// The store does not begin with the trees of the job.
     Stranger = 8,
+    /// There are no spots, or more than 256; for the C function, also an odd count
+    /// of their numbers.
+    Sheaf = 9,
 }
 
 impl Refusal {
     /// All of them, in the order of their numbers.
-    pub const ALL: [Refusal; 8] = [
+    pub const ALL: [Refusal; 9] = [
         Refusal::Form,
         Refusal::Edges,
         Refusal::Range,
@@ -48,9 +52,10 @@ impl Refusal {
         Refusal::Store,
         Refusal::Space,
         Refusal::Stranger,
+        Refusal::Sheaf,
     ];
 
-    /// Its number, 1 to 8.
+    /// Its number, 1 to 9.
     pub fn number(self) -> u8 {
         self as u8
     }
@@ -66,6 +71,7 @@ impl Refusal {
             Refusal::Store => "store",
             Refusal::Space => "space",
             Refusal::Stranger => "stranger",
+            Refusal::Sheaf => "sheaf",
         }
     }
 
@@ -75,7 +81,7 @@ impl Refusal {
             return Ok(());
         }
         let refusal = Refusal::ALL.into_iter().find(|r| r.number() == number);
-        Err(refusal.expect("the library refuses with 1 to 8 only"))
+        Err(refusal.expect("the library refuses with 1 to 9 only"))
     }
 }
 
