@@ -1,4 +1,4 @@
-"""What no contract can fix of the library from C and Rust: the exported symbols are the four functions of crates/exports/src/lib.rt, each with a
+"""What no contract can fix of the library from C and Rust: the exported symbols are the five functions of crates/exports/src/lib.rt, each with a
 contract, and the header and the Rust wrapper declare them with the same arguments in the same order."""
 
 import re
@@ -7,7 +7,7 @@ from pathlib import Path
 
 TOP = Path(__file__).resolve().parent.parent
 EXPORTS = TOP / "crates/exports/src/lib.rt"
-NAMES = ["clearance_read", "clearance_write", "clearance_map", "clearance_point"]
+NAMES = ["clearance_read", "clearance_write", "clearance_map", "clearance_point", "clearance_points"]
 IN_C = {"u8": "uint8_t", "i32": "int32_t", "i64": "int64_t", "usize": "size_t"}
 
 

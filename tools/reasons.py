@@ -5,6 +5,9 @@ from dataclasses import dataclass
 import sheets
 import strips
 
+# Points that one call of the library may ask for.
+SPOT_LIMIT = 256
+
 
 @dataclass(frozen=True)
 class Reason:
@@ -120,13 +123,18 @@ def written_edge(edge):
     return form.format(*edge)
 
 
-def library_lines(number, accepted):
-    """7 and 8 never come from a sheet alone."""
-    if number == 7:
-        cause = "The call lent too few bytes for the map or the sheet."
-    else:
-        cause = "The store that came with the point holds other trees than this job's."
-    return [cause, "It comes only from a library call, never from the program.", "For this sheet:"] + accepted
+# What never comes from a sheet alone: its cause, and the numbers that the program may give for the sheet.
+# A call for several points asks for 9 before 5 and 6.
+LIBRARY = {
+    7: ("The call lent too little for the map or the sheet, or for the answers of several points.", (0,)),
+    8: ("The store that came with the point or points holds other trees than this job's.", (0,)),
+    9: (f"The call for several points has none, more than {SPOT_LIMIT}, or an odd count of numbers.", (0, 5, 6)),
+}
+
+
+def library_lines(number, found):
+    lines = [LIBRARY[number][0], "It comes only from a library call, never from the program."]
+    return lines + (["For this sheet:"] + found.lines if found.number == 0 else [])
 
 
 def explanation(number, data):
@@ -134,8 +142,8 @@ def explanation(number, data):
     found = reason(data)
     if number == found.number:
         lines = found.lines
-    elif number in (7, 8) and found.number == 0:
-        lines = library_lines(number, found.lines)
+    elif number in LIBRARY and found.number in LIBRARY[number][1]:
+        lines = library_lines(number, found)
     elif found.number == 0:
         return False, f"not refused with {number} ({sheets.WORDS[number]}): the program accepts this sheet"
     else:

@@ -22,7 +22,17 @@ GRAINS = (1, 100_000)
 # How an edge begins, and how many points it has then.
 POINTS = {b"(edge (": 4, b"(line (": 2}
 
-WORDS = {1: "form", 2: "edges", 3: "range", 4: "cell", 5: "long", 6: "store", 7: "space", 8: "stranger"}
+WORDS = {
+    1: "form",
+    2: "edges",
+    3: "range",
+    4: "cell",
+    5: "long",
+    6: "store",
+    7: "space",
+    8: "stranger",
+    9: "sheaf",
+}
 
 
 class FormError(Exception):

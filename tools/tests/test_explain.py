@@ -128,13 +128,20 @@ class Explanations(unittest.TestCase):
         self.assertIn("none that is allowed", self.said(6, with_edges(wild * 64, b"100000")))
 
     def test_library(self):
-        for number in (7, 8):
+        for number in (7, 8, 9):
             text = self.said(number, SHEET)
             self.assertIn("only from a library call", text)
             self.assertIn("64 bytes", text)
             self.assertIn(f"{len(SHEET)} bytes", text)
             self.assertIn("store 11 numbers", text)
         self.assertFalse(reasons.explanation(7, with_edges(b""))[0])
+
+    def test_sheaf_comes_before_long_and_store(self):
+        for data in (with_edges(LONG_EDGE, b"488"), with_edges(LONG_EDGE, b"489")):
+            self.assertNotIn("For this sheet", self.said(9, data))
+            self.assertFalse(reasons.explanation(8, data)[0])
+        self.assertFalse(reasons.explanation(9, with_edges(b""))[0])
+        self.assertFalse(reasons.explanation(9, SHEET.replace(b"(cell 1)", b"(cell 5)"))[0])
 
     def test_the_length_that_is_written(self):
         mixed = with_edges(LINE + EDGE + b"(line (-1 22) (333 -4444))\n")
@@ -171,7 +178,7 @@ class Explain(unittest.TestCase):
 
     def test_usage(self):
         self.assertEqual(self.explain("--help")[0], 0)
-        for arguments in [(), (1,), (0, self.sheet), (9, self.sheet), ("form", self.sheet)]:
+        for arguments in [(), (1,), (0, self.sheet), (10, self.sheet), ("form", self.sheet)]:
             status, text, error = self.explain(*arguments)
             self.assertEqual((status, text), (2, ""))
             self.assertIn("usage", error)

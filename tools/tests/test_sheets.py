@@ -194,7 +194,8 @@ class ReadingMaps(unittest.TestCase):
         with self.assertRaises(sheets.RefusedMap) as caught:
             sheets.read_map(b"(refused 5)\n")
         self.assertEqual(caught.exception.number, 5)
-        self.assertEqual(broken_at(b"(refused 9)\n", sheets.read_map), (1, 10))
+        self.assertEqual(broken_at(b"(refused 0)\n", sheets.read_map), (1, 10))
+        self.assertEqual(broken_at(b"(refused 10)\n", sheets.read_map), (1, 11))
 
     def test_every_size(self):
         for spread in range(9):
