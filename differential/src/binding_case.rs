@@ -21,7 +21,7 @@ fn wanted<T>(result: Result<T, reference::Refusal>, tally: &mut Tally) -> Result
     result.map_err(|refusal| refusal.number())
 }
 
-/// All four safe calls.
+/// All five safe calls.
 pub fn all(random: &mut Random, tally: &mut Tally) -> Result<(), Fault> {
     let sheet = odd_sheet(random);
     let got = plain(clearance::read(&sheet));
@@ -40,7 +40,8 @@ pub fn all(random: &mut Random, tally: &mut Tally) -> Result<(), Fault> {
     if random.once_in(4) {
         store[random.below(clearance::NODE_NUMBERS)] ^= 1;
     }
-    compare_point(random, &job, &store, tally)
+    compare_point(random, &job, &store, tally)?;
+    compare_points(random, &job, &store, tally)
 }
 
 fn compare_write(random: &mut Random, job: &Numbers, tally: &mut Tally) -> Result<(), Fault> {
@@ -94,4 +95,30 @@ fn compare_point(
             want.map(|nearest| (nearest.lo, nearest.hi, nearest.edge)),
         )
         .finish(|| format!("point {x} {y} of {}", describe(job)))
+}
+
+fn compare_points(
+    random: &mut Random,
+    job: &Numbers,
+    store: &[i32],
+    tally: &mut Tally,
+) -> Result<(), Fault> {
+    let most = clearance::SPOTS_MOST;
+    let count = random.choose(&[1, 2, 3, 7, most, 0, most + 1]);
+    let mut spots: Vec<[i32; 2]> = (0..count).map(|_| spot_in_range(random, job)).collect();
+    if let Some(last) = spots.last_mut().filter(|_| random.once_in(6)) {
+        *last = odd_spot(random, job);
+    }
+    let got = plain(clearance::points(&binding_job(job), &spots, store));
+    let mut reply = vec![0; clearance::NEAREST_NUMBERS * most];
+    let result = reference::points(&reference_job(job), spots.as_flattened(), store, &mut reply);
+    let want = wanted(result, tally).map(|()| reply[..clearance::NEAREST_NUMBERS * count].to_vec());
+    let numbers = |nearest: clearance::Nearest| [nearest.lo, nearest.hi, nearest.edge as i64];
+    Comparison::default()
+        .value(
+            "safe points",
+            got.map(|found| found.into_iter().flat_map(numbers).collect()),
+            want,
+        )
+        .finish(|| format!("points {spots:?} of {}", describe(job)))
 }

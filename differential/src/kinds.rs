@@ -3,7 +3,7 @@
 use crate::fault::Fault;
 use crate::random::Random;
 use crate::tally::Tally;
-use crate::{binding_case, largest_case, map_case, point_case, read_case, write_case};
+use crate::{binding_case, largest_case, map_case, point_case, points_case, read_case, write_case};
 
 /// Which ties a kind is there to draw.
 #[derive(Clone, Copy)]
@@ -48,7 +48,7 @@ const fn with_ties(must_tie: Ties, kind: Kind) -> Kind {
 }
 
 /// All of them.
-pub const KINDS: [Kind; 18] = [
+pub const KINDS: [Kind; 22] = [
     kind("sheets of legal jobs", 8, &[0], read_case::legal),
     kind("sheets of odd numbers", 16, &[0, 2, 3, 4], read_case::odd),
     kind("sheets damaged", 32, &[0, 1, 2, 3, 4], read_case::damaged),
@@ -86,11 +86,20 @@ pub const KINDS: [Kind; 18] = [
         &[2, 3, 4, 5, 6, 8],
         point_case::illegal,
     ),
+    kind("spots answered", 6, &[0, 2, 5], points_case::answered),
+    kind("spots by length", 3, &[0, 5, 7, 9], points_case::lengths),
+    kind("spots by store", 8, &[0, 5, 6, 7, 8], points_case::stores),
+    kind(
+        "spots of odd calls",
+        16,
+        &[0, 2, 3, 4, 5, 6, 7, 8, 9],
+        points_case::illegal,
+    ),
     kind("largest jobs", 1, &[0, 6, 7], largest_case::largest),
     kind(
         "safe calls",
         6,
-        &[0, 2, 3, 4, 5, 6, 7, 8],
+        &[0, 2, 3, 4, 5, 6, 7, 8, 9],
         binding_case::all,
     ),
 ];

@@ -3,8 +3,9 @@
 use crate::fault::Fault;
 use crate::lent::Lent;
 use crate::numbers::{lay, Numbers, COUNT, GRAIN, M, MARKS, N, REACH, X, Y};
+use crate::points_case::{self, Asked};
 use crate::random::Random;
-use crate::spots::spot_in_range;
+use crate::spots::{spot_in_range, spot_row};
 use crate::stores::right_numbers;
 use crate::tally::Tally;
 use crate::{map_case, point_case, write_case};
@@ -55,5 +56,7 @@ pub fn largest(random: &mut Random, tally: &mut Tally) -> Result<(), Fault> {
     let right = right_numbers(&job);
     let store = Lent::holding(&right, random.bits());
     let spot = spot_in_range(random, &job);
-    point_case::compare(&job, spot, &store, random.bits(), tally)
+    point_case::compare(&job, spot, &store, random.bits(), tally)?;
+    let spots = spot_row(random, &job, 2 * clearance::SPOTS_MOST);
+    points_case::compare(&job, &Asked::enough(spots, store), random.bits(), tally)
 }

@@ -16,6 +16,7 @@ mod map_case;
 mod numbers;
 mod options;
 mod point_case;
+mod points_case;
 mod random;
 mod read_case;
 mod repeats;
@@ -47,6 +48,7 @@ const _: () = {
     assert!(clearance::LINE_NUMBERS == clearance_reference::NUMBERS_A_LINE);
     assert!(clearance::CUBIC == clearance_reference::CUBIC_MARK);
     assert!(clearance::LINE == clearance_reference::LINE_MARK);
+    assert!(clearance::SPOTS_MOST == clearance_reference::SPOT_LIMIT);
 };
 
 /// Runs what the options ask for; `None` after a fault.

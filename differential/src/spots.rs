@@ -1,9 +1,35 @@
-//! Points to ask for.
+//! Points to ask for, one by one or in a row.
 
+use crate::lent::Lent;
 use crate::numbers::{Numbers, COUNT, PLACE, PLACES, X, Y};
 use crate::random::Random;
 use crate::spoiling::odd_number;
-use clearance_reference::{COORDINATE_LIMIT, EDGE_LIMIT};
+use clearance_reference::{COORDINATE_LIMIT, EDGE_LIMIT, SPOT_LIMIT};
+
+/// The numbers of the longest row of spots.
+const ROW_MOST: usize = 2 * SPOT_LIMIT;
+
+/// Lengths of rows: of none, of a few and about the most, odd ones too.
+pub const ROW_LENGTHS: [usize; 18] = [
+    0,
+    1,
+    2,
+    3,
+    4,
+    5,
+    6,
+    7,
+    8,
+    ROW_MOST - 3,
+    ROW_MOST - 2,
+    ROW_MOST - 1,
+    ROW_MOST,
+    ROW_MOST + 1,
+    ROW_MOST + 2,
+    ROW_MOST + 3,
+    ROW_MOST + 4,
+    2 * ROW_MOST,
+];
 
 /// A point in range: about the outline or the plate, or anywhere.
 pub fn spot_in_range(random: &mut Random, job: &Numbers) -> [i32; 2] {
@@ -35,4 +61,29 @@ pub fn odd_spot(random: &mut Random, job: &Numbers) -> [i32; 2] {
         _ => spot = spot.map(|_| odd_number(random)),
     }
     spot
+}
+
+/// A row of so many numbers in range. It goes on right behind what is lent, or
+/// the guard is there, with most of its marks out of range.
+pub fn spot_row(random: &mut Random, job: &Numbers, length: usize) -> Lent<i32> {
+    let whole = length + random.choose(&[0, 1, 2, 9]);
+    let spots = (0..whole).map(|_| spot_in_range(random, job));
+    let numbers: Vec<i32> = spots.flatten().take(whole).collect();
+    Lent::cut(&numbers, length, random.bits())
+}
+
+/// Puts one number of a row out of range: the first, the last, one just past the
+/// most spots, or any.
+pub fn spoil_row(random: &mut Random, row: &mut Lent<i32>) {
+    let Some(last) = row.length().checked_sub(1) else {
+        return;
+    };
+    let place = match random.below(4) {
+        0 => 0,
+        1 => last,
+        2 => last.min(ROW_MOST + random.below(3)),
+        _ => random.below(last + 1),
+    };
+    let past = COORDINATE_LIMIT + 1;
+    row.part_mut()[place] = random.choose(&[past, -past, i32::MIN, i32::MAX]);
 }

@@ -10,7 +10,7 @@ pub struct Tally {
     /// Cases run.
     pub cases: u64,
     /// Calls compared, by the number they gave.
-    pub numbers: [u64; 9],
+    pub numbers: [u64; 10],
     /// Ties drawn, by the test.
     ties: [u64; TESTS],
     /// Points whose hi several edges attain, where they are counted.
