@@ -1,6 +1,6 @@
 //! What the measurement compares beside the proved library and the second
-//! implementation: the drawing of the proved one in plain Rust, the sampling of
-//! old, and outlines without lines.
+//! implementation: the drawing and the points of the proved one in plain Rust, the
+//! sampling of old, and outlines without lines.
 
 #![warn(missing_docs)]
 

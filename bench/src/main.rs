@@ -3,12 +3,14 @@
 
 mod growth;
 mod makers;
+#[cfg(feature = "proved")]
+mod proved;
 mod tables;
 mod timing;
 mod whole;
 
 use clearance_bench::{same_tricks, sampling, straight};
-use clearance_reference::{listing, read};
+use clearance_reference::{self as reference, listing, read};
 use makers::{Case, Maker};
 use std::fs;
 use std::path::{Path, PathBuf};
@@ -30,7 +32,7 @@ Exit status: 0 done, 1 an answer is wrong or a file cannot be used, 2 bad usage.
 
 const NOTES: &str = "
 Each time is the median of 7 to 1,001 calls that take turns, less the clock's own: processor time from 0.1 ms on where
-the system tells it, else the wall clock. Store, map and sheet are cleared before each call, outside the clock.
+the system tells it, else the wall clock. Store, map, sheet and reply are cleared before each call, outside the clock.
 build    Both libraries draw the map of a plate of one cell, which is nearly all building: the proved one has no entry for
          the trees alone. The sampling makes its polyline.
 draw     The map without the building: the map's time less that of a plate of one cell. The same tricks draw from a
@@ -38,6 +40,8 @@ draw     The map without the building: the map's time less that of a plate of on
 point    Store and polyline are ready. All but the sampling check that the store holds the job's trees.
 lookup   The point without the check of the store, of jobs of 1,000 nodes and more. The proved library's is its point's time
          less that of a store whose last number is wrong. The reference looks up in finished trees.
+points   256 points over the plate in one call, which checks the store once; else as a point. Of the proved library its C
+         function is timed, since the safe call also makes values of the reply.
 program  A process from its start to the end of its output, on the wall clock.
 ";
 
@@ -116,6 +120,9 @@ fn check(case: &Case) -> Result<(), String> {
     if cells != case.cells {
         return wrong("same tricks");
     }
+    if let Some(who) = wrong_at_points(case) {
+        return wrong(who);
+    }
     #[cfg(feature = "proved")]
     {
         let mut store = vec![0; case.store.len()];
@@ -127,7 +134,7 @@ fn check(case: &Case) -> Result<(), String> {
         }
         let (x, y) = case.spot();
         let found = job.and_then(|job| clearance::point(&job, x, y, &case.store));
-        let wanted = clearance_reference::point(&case.job, x, y, &case.store);
+        let wanted = reference::point(&case.job, x, y, &case.store);
         if found.map(|near| (near.lo, near.hi)).ok() != wanted.map(|near| (near.lo, near.hi)).ok() {
             return wrong("proved");
         }
@@ -140,6 +147,29 @@ fn check(case: &Case) -> Result<(), String> {
         }
     }
     Ok(())
+}
+
+/// Who does not answer all the spots as the reference does.
+fn wrong_at_points(case: &Case) -> Option<&'static str> {
+    let (spots, store) = (case.spots(), &case.store);
+    let mut wanted = vec![0; 3 * spots.len() / 2];
+    let mut reply = wanted.clone();
+    if reference::points(&case.job, &spots, store, &mut wanted).is_err() {
+        return Some("the reference");
+    }
+    if same_tricks::points(&case.job, &spots, store, &mut reply).is_err() || reply != wanted {
+        return Some("same tricks");
+    }
+    #[cfg(feature = "proved")]
+    for ask in [proved::Row::points, proved::Row::one_by_one] {
+        reply.fill(0);
+        let row = proved::Row::of(&case.sheet);
+        let number = row.map(|row| ask(&row, &spots, store, &mut reply));
+        if number != Some(0) || reply != wanted {
+            return Some("proved");
+        }
+    }
+    None
 }
 
 /// The cases with lines, and the same with cubics in their place.
@@ -167,6 +197,7 @@ fn run(asked: &Asked) -> Result<(), String> {
     let linked = cfg!(feature = "proved");
     tables::print_ratios(&cases, linked || asked.program.is_some(), asked.budget);
     print!("{NOTES}");
+    tables::print_points(&cases, asked.budget);
     tables::print_straight(&pairs, asked.budget);
     tables::print_wrong_cells(&cases);
     tables::print_growth(linked, asked.budget)

@@ -1,5 +1,7 @@
 //! Who makes the answers, and one timed call of each for every row.
 
+#[cfg(feature = "proved")]
+use crate::proved;
 use crate::timing::{timed, wall_time, Call};
 use crate::whole::spawn;
 use clearance_bench::{same_tricks, sampling};
@@ -53,11 +55,12 @@ pub enum Row {
     Draw,
     Point,
     Lookup,
+    Points,
     Program,
 }
 
 impl Row {
-    pub const ALL: [Row; 8] = [
+    pub const ALL: [Row; 9] = [
         Row::Read,
         Row::Write,
         Row::Build,
@@ -65,6 +68,7 @@ impl Row {
         Row::Draw,
         Row::Point,
         Row::Lookup,
+        Row::Points,
         Row::Program,
     ];
 
@@ -77,6 +81,7 @@ impl Row {
             Row::Draw => "draw",
             Row::Point => "point",
             Row::Lookup => "lookup",
+            Row::Points => "points",
             Row::Program => "program",
         }
     }
@@ -98,7 +103,7 @@ pub struct Case {
 }
 
 /// The call of a row to a library. The proved one and the reference have the
-/// same four entries, each with a job of its own.
+/// same entries, each with a job of its own.
 macro_rules! library_call {
     ($library:ident, $case:ident, $row:ident) => {{
         let (x, y) = $case.spot();
@@ -116,7 +121,7 @@ macro_rules! library_call {
             Row::Point => Box::new(move || {
                 timed(|| $library::point(black_box(&job), x, y, black_box(&$case.store)))
             }),
-            Row::Lookup | Row::Program => return None,
+            Row::Lookup | Row::Points | Row::Program => return None,
         };
         Some(call)
     }};
@@ -155,6 +160,20 @@ impl Case {
         )
     }
 
+    /// As many spots as one call takes, 16 by 16 over the plate: x and y in turn.
+    pub fn spots(&self) -> Vec<i32> {
+        let limit = i64::from(reference::COORDINATE_LIMIT);
+        let across = reference::SPOT_LIMIT.isqrt();
+        let spot = |corner: i32, step: usize| {
+            let off = ((2 * step + 1) << self.job.n) / (2 * across);
+            (i64::from(corner) + off as i64).min(limit) as i32
+        };
+        let (x, y) = (self.job.x, self.job.y);
+        (0..reference::SPOT_LIMIT)
+            .flat_map(|index| [spot(x, index % across), spot(y, index / across)])
+            .collect()
+    }
+
     /// The same outline with a plate of one smallest cell, where building the
     /// trees is nearly all the work.
     fn one_cell_job(&self) -> Job {
@@ -185,6 +204,9 @@ impl Case {
         match maker {
             Maker::Proved => self.proved_call(row),
             Maker::Reference if row == Row::Lookup => self.reference_lookup(),
+            Maker::Reference if row == Row::Points => Some(self.with_reply(|spots, reply| {
+                reference::points(black_box(&self.job), spots, black_box(&self.store), reply)
+            })),
             Maker::Reference => library_call!(reference, self, row),
             Maker::Sampling => self.sampling_call(row),
             Maker::SameTricks => self.same_tricks_call(row),
@@ -193,10 +215,27 @@ impl Case {
 
     #[cfg(feature = "proved")]
     fn proved_call(&self, row: Row) -> Option<Call<'_>> {
-        if row == Row::Lookup {
-            return self.proved_lookup();
+        match row {
+            Row::Lookup => self.proved_lookup(),
+            Row::Points => self.proved_points().map(|[at_once, _]| at_once),
+            _ => library_call!(clearance, self, row),
         }
-        library_call!(clearance, self, row)
+    }
+
+    /// All spots in one call, and in a call each.
+    #[cfg(feature = "proved")]
+    pub fn proved_points(&self) -> Option<[Call<'_>; 2]> {
+        let row = proved::Row::of(&self.sheet)?;
+        Some([proved::Row::points, proved::Row::one_by_one].map(|ask| {
+            self.with_reply(move |spots, reply| {
+                ask(black_box(&row), spots, black_box(&self.store), reply)
+            })
+        }))
+    }
+
+    #[cfg(not(feature = "proved"))]
+    pub fn proved_points(&self) -> Option<[Call<'_>; 2]> {
+        None
     }
 
     /// It has no entry without the check of the store. A store that is wrong in
@@ -262,18 +301,47 @@ impl Case {
                     timed(|| sampling::distance(black_box(&polyline), black_box(spot)))
                 }))
             }
+            Row::Points => Some(self.sampling_points()),
             _ => None,
         }
     }
 
-    /// They draw, and do nothing else.
+    fn sampling_points(&self) -> Call<'_> {
+        let polyline = sampling::polyline(&self.job, self.steps);
+        let spots = self.spots();
+        let distances = move |spots: &[i32]| -> Vec<f64> {
+            let pairs = spots.as_chunks::<2>().0.iter();
+            pairs
+                .map(|pair| sampling::distance(&polyline, pair.map(f64::from)))
+                .collect()
+        };
+        Box::new(move || timed(|| distances(black_box(&spots))))
+    }
+
+    /// They draw and answer several points, and do nothing else.
     fn same_tricks_call(&self, row: Row) -> Option<Call<'_>> {
         let draw = |job: Job| {
             self.with_memory(move |_, cells| {
                 same_tricks::draw(black_box(&job), black_box(&self.store), cells);
             })
         };
-        (row == Row::Draw).then(|| less(draw(self.job.clone()), draw(self.one_cell_job())))
+        match row {
+            Row::Draw => Some(less(draw(self.job.clone()), draw(self.one_cell_job()))),
+            Row::Points => Some(self.with_reply(|spots, reply| {
+                same_tricks::points(black_box(&self.job), spots, black_box(&self.store), reply)
+            })),
+            _ => None,
+        }
+    }
+
+    /// A call with all spots and a reply for them, cleared before it.
+    fn with_reply<'a, T>(&self, work: impl Fn(&[i32], &mut [i64]) -> T + 'a) -> Call<'a> {
+        let spots = self.spots();
+        let mut reply = vec![0; 3 * spots.len() / 2];
+        Box::new(move || {
+            reply.fill(0);
+            timed(|| work(black_box(&spots), black_box(&mut reply)))
+        })
     }
 
     /// A call with store and map, both cleared before it.

@@ -82,12 +82,39 @@ fn print_line(numbers: impl Iterator<Item = Option<f64>>) {
 }
 
 fn geometric_mean(all: &[Times], pair: (Maker, Maker)) -> Option<f64> {
-    let logs: Option<Vec<f64>> = all
-        .iter()
-        .map(|times| ratio(times, pair).map(f64::ln))
-        .collect();
-    let logs = logs.filter(|logs| !logs.is_empty())?;
-    Some((logs.iter().sum::<f64>() / logs.len() as f64).exp())
+    let ratios: Option<Vec<f64>> = all.iter().map(|times| ratio(times, pair)).collect();
+    mean_of(&ratios?)
+}
+
+/// The geometric mean of some ratios.
+fn mean_of(ratios: &[f64]) -> Option<f64> {
+    let sum: f64 = ratios.iter().map(|ratio| ratio.ln()).sum();
+    (!ratios.is_empty()).then(|| (sum / ratios.len() as f64).exp())
+}
+
+/// The proved library's points in one call beside a call each.
+pub fn print_points(cases: &[Case], budget: Duration) {
+    let mut ratios = Vec::new();
+    for case in cases {
+        let Some(mut calls) = case.proved_points() else {
+            return;
+        };
+        let [at_once, singly] = medians(&mut calls, budget)[..] else {
+            return;
+        };
+        if ratios.is_empty() {
+            println!("\nTime in µs of 256 points in one call and in 256 calls, proved.\n");
+            print!("{:10} {:>7} {:>12}", "example", "nodes", "one call");
+            println!(" {:>12} {:>16}", "256 calls", "one / 256 calls");
+        }
+        let ratio = at_once / singly;
+        print!("{:10} {:7} {at_once:12.2}", case.name, case.nodes);
+        println!(" {singly:12.2} {ratio:16.4}");
+        ratios.push(ratio);
+    }
+    if let Some(mean) = mean_of(&ratios) {
+        println!("{:10} {mean:50.4}", "MEAN");
+    }
 }
 
 /// The building with lines beside that with cubics in their place.

@@ -32,12 +32,12 @@ fn the_tables_are_printed() {
     let text = printed(&["--seconds", "0", "--steps", "4"]);
     let wanted = if cfg!(feature = "proved") {
         // Of the whole program there are two without a proved one.
-        [1, 1, 3, 3, 5, 3, 3, 1]
+        [1, 1, 3, 3, 5, 3, 3, 5, 1]
     } else {
-        [0, 0, 1, 1, 2, 1, 1, 1]
+        [0, 0, 1, 1, 2, 1, 1, 2, 1]
     };
     let rows = [
-        "read", "write", "build", "map", "draw", "point", "lookup", "program",
+        "read", "write", "build", "map", "draw", "point", "lookup", "points", "program",
     ];
     let wanted: Vec<(&str, usize)> = rows.into_iter().zip(wanted).collect();
     assert_eq!(means(&text), wanted);
@@ -50,6 +50,8 @@ fn the_tables_are_printed() {
     ] {
         assert!(text.contains(title), "{title}");
     }
+    let beside = text.contains("256 points in one call and in 256 calls");
+    assert_eq!(beside, cfg!(feature = "proved"));
 }
 
 #[test]

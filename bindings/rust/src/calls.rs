@@ -128,7 +128,7 @@ pub fn point(job: &Job, x: i32, y: i32, store: &[i32]) -> Result<Nearest, Refusa
 /// each. They are those of [`point`], in the order of the spots, but the store is
 /// compared once for all of them. Of 2, 3, 4, 9, 5, 6 and 8, in this order, it
 /// refuses with the first that applies: a coordinate out of range comes before too
-/// many spots. Room for the answers is its own, so 7 never comes.
+/// many spots. It has room of its own for the answers, so 7 is not among them.
 ///
 /// ```
 /// use clearance::{map, point, points, read, Refusal};
