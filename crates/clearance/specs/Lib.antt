@@ -3,5 +3,7 @@
 pub mod Sheets
 -- demand 3 of a map, the exact verdict, and the bounds and the edge of a point
 pub mod Demands
+-- many points in one call
+pub mod Rows
 -- from a byte of a map to its meaning
 pub mod Letters

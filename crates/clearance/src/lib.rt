@@ -1,4 +1,4 @@
-// The library's face: four entries and nothing else. None asks anything of its caller; each has, for every argument, one permitted answer and
+// The library's face: five entries and nothing else. None asks anything of its caller; each has, for every argument, one permitted answer and
 // one permitted state of the memory lent, those that the definitions of `model` give. RULES, "Entries".
 use model::Job;
 use model::Map;
@@ -7,7 +7,7 @@ use model::Read;
 use model::Written;
 ghost use mathlib.Core.Path.{_≡_};
 ghost use Rattle.model.specs.Entries as entries;
-ghost use Rattle.model.specs.Promises.{MapHolds, Bounds, wholePoint};
+ghost use Rattle.model.specs.Promises.{MapHolds, Bounds, wholePoint, PointsHold};
 
 // Reads a job sheet: the job, or the refusal 1, 2, 3 or 4 and a job of zeros.
 pub fn read(sheet: &[u8]) -> Read
@@ -42,4 +42,15 @@ pub fn point(job: Job, x: i32, y: i32, store: &[i32]) -> Nearest
     ensures bounds { λ r. ⌜ (r .refusal ≡ 0 → Bounds job (wholePoint x y) (r .lo) (r .hi)) ⌝ }
 {
     pointing::point(job, x, y, store)
+}
+
+// The same for up to 256 points in one call, x and y of each in turn, with the store compared once: at the front of `reply` the two bounds and the
+// edge of each point in turn, as `point` gives them for it alone (`PointsAlone`); or the refusal 2, 3, 4, 9, 5, 6, 7 or 8, the first in this order,
+// with `reply` as it was.
+pub fn points(job: Job, spots: &[i32], store: &[i32], reply: &mut [i64]) -> u8
+    ensures answer { λ r. ⌜ r ≡ entries.pointsRefusal job (now (spots .entry)) (now (store .entry)) (now (reply .entry)) ⌝ }
+    ensures lent { λ _. ⌜ now (reply .exit) ≡ entries.pointsReply job (now (spots .entry)) (now (store .entry)) (now (reply .entry)) ⌝ }
+    ensures bounds { λ r. ⌜ (r ≡ 0 → PointsHold job (now (spots .entry)) (now (reply .exit))) ⌝ }
+{
+    many_points::points(job, spots, store, reply)
 }

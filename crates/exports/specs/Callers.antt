@@ -13,22 +13,23 @@ use Rattle.integers.specs.Tests.{le-of}
 use Rattle.model.specs.declared.Job.{Job}
 use Rattle.model.specs.declared.Read.{Read}
 use Rattle.model.specs.Refusals.{edges, range, cell, first}
-use Rattle.model.specs.Jobs.{coordinate, counted, ranged, celled}
+use Rattle.model.specs.Jobs.{coordinate, coordinates, counted, ranged, celled}
 use Rattle.model.specs.Sheets.{Sheet, lines, broken, jobOf, readSheet, sheetOf}
 use Rattle.model.specs.Store.{width, forest, nodesOf, storeOf, begins}
-use Rattle.model.specs.Entries.{over, readChecks, read, writeRefusal, write, writeLeaves, mapChecks, mapRefusal, map, mapStore, mapCells, pointChecks, pointRefusal, point}
-use Rattle.model.specs.Promises.{Kept, MapHolds}
+use Rattle.model.specs.Entries.{over, readChecks, read, writeRefusal, write, writeLeaves, mapChecks, mapRefusal, map, mapStore, mapCells, pointChecks, pointRefusal, point, spotsIn, spotsFit, pointsChecks, pointsRefusal, pointsReply}
+use Rattle.model.specs.Promises.{Kept, MapHolds, spotX, spotY}
 use Rattle.ranges.specs.Refusals.{all-pass, passed-all, accepted-is}
 use Rattle.ranges.specs.Lowest.{read-by}
 use Rattle.subtrees.specs.Preorder.{all-begun}
 use Rattle.subtrees.specs.Begins.{all-begins}
 use Rattle.sheet_text.specs.RoundTrips.{sheet-kept, write-read}
 use Rattle.clearance.specs.Demands as demands
+use Rattle.clearance.specs.Rows.{points-alone, points-true}
 use Rattle.clearance.specs.Sheets.{read-whole}
 use Rattle.flat_jobs.specs.FlatJobs.{jobFrom, numbersOf}
 use Rattle.flat_jobs.specs.Rows.{from-whole, row-kept}
 use Rattle.exports.specs.Rows.{readLeaves, bytesLeft, numbersLeft}
-use Rattle.exports.specs.Promises.{ReadNumbers, RowRead, sheetLeft, SheetBack, RowBack, Told, PointTold, ReadMapPoint}
+use Rattle.exports.specs.Promises.{ReadNumbers, RowRead, sheetLeft, SheetBack, RowBack, Told, PointTold, RowTold, PointsTold, ReadMapPoint}
 
 -- ---- reading
 own-four : (a b c : Bool) → first ((edges, a) ∷ (range, b) ∷ (cell, c) ∷ []) ≤ 4
@@ -91,6 +92,15 @@ told j x y store old h =
 pub point-told : PointTold
 point-told row x y store old h = told (jobFrom row) x y store old h
 
+-- ---- and one for many: each of them is as a call for it alone
+row-told : (j : Job) (spots store reply : List ℤ) → pointsRefusal j spots store reply ≡ 0 → RowTold j spots (pointsRefusal j spots store reply) (pointsReply j spots store reply)
+row-told j spots store reply h k l =
+    let a = points-alone j spots store reply h k l in
+    record { given = h; bounds = points-true j spots store reply h k l; edge = point j (spotX spots k) (spotY spots k) store .edge; edge-is = a .edge-is; first = demands.point-first j (spotX spots k) (spotY spots k) store (a .given) }
+
+pub points-told : PointsTold
+points-told row spots store reply h = row-told (jobFrom row) spots store reply h
+
 -- ---- the store that an accepted map leaves begins with the job's trees, and has room for them
 module _ (j : Job) (store : List ℤ) (cells : List ℕ) (h : mapRefusal j store cells ≡ 0) where
   trees-left : mapStore j store cells ≡ over (storeOf j) store
@@ -112,7 +122,19 @@ module _ (j : Job) (store : List ℤ) (cells : List ℕ) (h : mapRefusal j store
       subst (λ (s : List ℤ). first (pointChecks j x y s) ≡ 0) (sym trees-left)
       (all-pass (pointChecks j x y (over (storeOf j) store)) (p .0, (p .1 .0, (rw (hx, hy), (p .1 .1 .0, (p .1 .1 .1 .0, (room, (begun, tt))))))))
 
-  -- and its numbers tell of the job
+  -- and so are many in one call
+  points-pass : (spots reply : List ℤ) → coordinates spots ≡ true → spotsFit spots ≡ true → 3 * spotsIn spots ≤ length reply → pointsRefusal j spots (mapStore j store cells) reply ≡ 0
+  unfolding pointsRefusal mapRefusal
+  points-pass spots reply hc hf hr =
+      let p = passed-all (mapChecks j store cells) h in
+      let room = still-room (le-of (width * nodesOf j) (length store) (p .1 .1 .1 .1 .0)) in
+      subst (λ (s : List ℤ). first (pointsChecks j spots s reply) ≡ 0) (sym trees-left)
+      (all-pass (pointsChecks j spots (over (storeOf j) store) reply) (p .0, (p .1 .0, (hc, (p .1 .1 .0, (hf, (p .1 .1 .1 .0, (room, (le-leb (3 * spotsIn spots) (length reply) hr, (begun, tt))))))))))
+
+  pub row-drawn : (spots reply : List ℤ) → coordinates spots ≡ true → spotsFit spots ≡ true → 3 * spotsIn spots ≤ length reply → RowTold j spots (pointsRefusal j spots (mapStore j store cells) reply) (pointsReply j spots (mapStore j store cells) reply)
+  row-drawn spots reply hc hf hr = row-told j spots (mapStore j store cells) reply (points-pass spots reply hc hf hr)
+
+  -- and a point's numbers tell of the job
   pub point-drawn : (x y : ℤ) (old : List ℤ) → coordinate x ≡ true → coordinate y ≡ true → Told j x y (point j x y (mapStore j store cells) .refusal) (numbersLeft j x y (mapStore j store cells) old)
   point-drawn x y old hx hy =
       let z : point j x y (mapStore j store cells) .refusal ≡ 0 = unfold point in point-passes x y hx hy in
@@ -129,4 +151,7 @@ read-map-point sheet row store cells h k =
       answered = λ x y old hx hy.
           subst (λ (i : Job). Told i x y (point j x y (mapStore j store cells) .refusal) (numbersLeft j x y (mapStore j store cells) old)) e
           (point-drawn j store cells z x y old hx hy);
+      answered-all = λ spots reply hc hf hr.
+          subst (λ (i : Job). RowTold i spots (pointsRefusal j spots (mapStore j store cells) reply) (pointsReply j spots (mapStore j store cells) reply)) e
+          (row-drawn j store cells z spots reply hc hf hr);
     }

@@ -1,4 +1,4 @@
-// The library's face for callers in C and Rust: the four entries over numbers, slices and pointers. A job is a row of `flat_jobs::NUMBERS`
+// The library's face for callers in C and Rust: the five entries over numbers, slices and pointers. A job is a row of `flat_jobs::NUMBERS`
 // numbers; of a row that is shorter the missing numbers are 0, so one that ends before its marks is of cubics alone, and of one that is longer
 // the rest is not looked at. None asks anything of its caller, and a refused call changes nothing. What calls one after the other promise
 // stands in specs/Promises.antt.
@@ -7,7 +7,7 @@ ghost use mathlib.Core.Path.{_≡_};
 ghost use Prim.Native.Nat.{_<_};
 ghost use lib.IntN.{pos};
 ghost use Rattle.model.specs.Entries as entries;
-ghost use Rattle.model.specs.Promises.{MapHolds, Bounds, wholePoint};
+ghost use Rattle.model.specs.Promises.{MapHolds, Bounds, wholePoint, PointsHold};
 ghost use Rattle.flat_jobs.specs.FlatJobs.{jobFrom};
 ghost use Rattle.exports.specs.Rows.{readLeaves, bytesLeft, nodesLeft, loIn, hiIn, numbersLeft};
 
@@ -99,4 +99,21 @@ pub extern "C" fn clearance_point(
     let edge = edge_number(found.edge);
     *nearest = [lo, hi, edge];
     0
+}
+
+// The same for up to 256 points, x and y of each in turn: 0 and each point's two bounds and edge in turn at the front of `reply`, or the refusal 2,
+// 3, 4, 9, 5, 6, 7 or 8, the first in this order.
+#[no_mangle]
+pub extern "C" fn clearance_points(
+    job: &[i32],
+    spots: &[i32],
+    store: &[i32],
+    reply: &mut [i64],
+) -> u8
+    ensures refusal { λ r. ⌜ r ≡ entries.pointsRefusal (jobFrom (now (job .entry))) (now (spots .entry)) (now (store .entry)) (now (reply .entry)) ⌝ }
+    ensures lent { λ _. ⌜ now (reply .exit) ≡ entries.pointsReply (jobFrom (now (job .entry))) (now (spots .entry)) (now (store .entry)) (now (reply .entry)) ⌝ }
+    ensures bounds { λ r. ⌜ (r ≡ 0 → PointsHold (jobFrom (now (job .entry))) (now (spots .entry)) (now (reply .exit))) ⌝ }
+{
+    let given = flat_jobs::job_from(job);
+    clearance::points(given, spots, store, reply)
 }

@@ -1,4 +1,5 @@
--- The loops over a job's places and over its marks: number i is tested where i is below n, and is 0 from there on. Assumes nothing.
+-- The loops over a job's places, over a row of points and over a job's marks: number i is tested where i is below n, and is 0 from there on.
+-- Assumes nothing.
 use mathlib.Core.Path.{_≡_, refl, sym, ap, ap₂, _∙_}
 use mathlib.Core.Bool.{Bool, true, false, cond, _&&_}
 use mathlib.Core.List.{List, [], _∷_}
@@ -10,7 +11,7 @@ use lib.IntN.{ℤ, pos}
 use lib.ListN.{length, getD, drop, drop-of-length-le}
 use lib.Seq.{drop-cons, drop-drop}
 use borrow.Author.Tests.{ltb-true, ltb-false}
-use Rattle.model.specs.Jobs.{coordinate, isZero, kind, placed, marked}
+use Rattle.model.specs.Jobs.{coordinate, coordinates, isZero, kind, placed, marked}
 
 -- of each number i
 abbrev pub Test : Type 0
@@ -67,6 +68,12 @@ unfolding placed run
 placed-run k i [] = refl
 placed-run zero i (v ∷ vs) = ap (λ b. isZero v && b) (placed-run zero (i + 1) vs)
 placed-run (suc k) i (v ∷ vs) = ap (λ b. coordinate v && b) (placed-run k (i + 1) vs)
+
+-- of a row all are tested
+pub row-run : (i : ℕ) (vs : List ℤ) → coordinates vs ≡ run anywhere (length vs) i vs
+unfolding coordinates run
+row-run i [] = refl
+row-run i (v ∷ vs) = ap (λ b. coordinate v && b) (row-run (i + 1) vs)
 
 next-edge : (vs : List ℤ) (i : ℕ) → drop 8 (drop (8 * i) vs) ≡ drop (8 * (i + 1)) vs
 next-edge vs i = drop-drop 8 (8 * i) vs ∙ ap (λ p. drop p vs) (let e : 8 * i + 8 ≡ 8 * (i + 1) = omega arith in e)

@@ -1,25 +1,25 @@
--- Figures of the cases of refusals: the numbers that have a text, the numbers of a form, marks, ranges and long edges, and which number is
--- the lowest; and of how many numbers a job has. Assumes nothing.
+-- Figures of the cases of refusals: the numbers that have a text, the numbers of a form, marks, ranges, long edges and rows of points, which
+-- number is the lowest and which comes first; of how many numbers a job has; and of the places of a point and a reply. Assumes nothing.
 use mathlib.Core.Path.{_≡_, refl, sym, subst}
 use mathlib.Core.Bool.{Bool, true, false}
 use mathlib.Core.List.{List, [], _∷_, _++_}
-use mathlib.Core.Logic.{inl, inr}
-use Prim.Native.Nat.{ℕ, zero, suc, _+_, _≤_, _<_}
+use mathlib.Core.Logic.{_⊎_, inl, inr}
+use Prim.Native.Nat.{ℕ, zero, suc, _+_, _*_, _≤_, _<_}
 use native.Mathlib.Omega.{arith}
 use lib.Dec.{T, lit<}
 use lib.IntN.{ℤ, pos, negsuc}
 use lib.Signed.{ltZ}
-use lib.ListN.{getD, replicate}
+use lib.ListN.{length, getD, replicate}
 use Rattle.basics.specs.Numbers.{absℤ}
 use Rattle.model.specs.declared.Job.{Job}
-use Rattle.model.specs.Refusals.{Refusal, number, form, edges, range, cell, long, store, space, stranger}
+use Rattle.model.specs.Refusals.{Refusal, number, turn, form, edges, range, cell, long, store, space, stranger, sheaf}
 use Rattle.model.specs.Jobs.{isZero, isOne, zeroJob}
 use Rattle.model.specs.Numbers.{Small}
 use Rattle.model.specs.Forms.{marks}
 use Rattle.model.specs.Sheets.{jobForm, plateForm, edgeForm, lineForm}
 use Rattle.model.specs.Strips.{curved, straight, sideAt, strip}
-use Rattle.model.specs.Cases.{Outside, PlaceCase, MarkCase, RangeCase, Reached, LongCase, Lowest}
-use Rattle.model.specs.Promises.{Whole}
+use Rattle.model.specs.Cases.{Outside, PlaceCase, MarkCase, RangeCase, RowCase, Reached, LongCase, SheafCase, Earliest, Lowest}
+use Rattle.model.specs.Promises.{Whole, spotX, spotY, loAt, hiAt, namedAt}
 use Rattle.model.specs.FigureTables.{AllHold, _and_, mixedJob}
 use Rattle.model.specs.PointFigures.{Is}
 
@@ -41,6 +41,10 @@ form-marks = (refl, refl, refl, refl)
 pub zeros-whole : Whole zeroJob
 zeros-whole = (refl, refl)
 
+-- ---- where a point of a row stands, and its reply
+pub second-spot : (row : List ℤ) → row ≡ pos 10 ∷ pos 11 ∷ pos 12 ∷ pos 13 ∷ pos 14 ∷ pos 15 ∷ [] → (spotX row 1 ≡ pos 12) × (spotY row 1 ≡ pos 13) × (loAt row 1 ≡ pos 13) × (hiAt row 1 ≡ pos 14) × (namedAt row 1 ≡ pos 15)
+second-spot row e = rw e (refl, refl, refl, refl, refl)
+
 -- ---- marks, ranges and long edges
 pub data Figure : Type 0 where
   -- whether mark i is refused, where n edges have these marks and numbers
@@ -49,11 +53,16 @@ pub data Figure : Type 0 where
   range-case : Job → Bool → Figure
   -- whether the job has an edge that is too long
   long-case : Job → Bool → Figure
+  -- whether a row of points has a number that is refused, and whether it has too few numbers, too many or an odd count
+  row-case : List ℤ → Bool → Figure
+  sheaf-case : List ℤ → Bool → Figure
 
 abbrev pub Holds : Figure → Type 0
 Holds (mark-case n ms vs i t) = Is t (MarkCase n ms vs i)
 Holds (range-case j t) = Is t (RangeCase j)
 Holds (long-case j t) = Is t (LongCase j)
+Holds (row-case zs t) = Is t (RowCase zs)
+Holds (sheaf-case zs t) = Is t (SheafCase zs)
 
 -- a cubic's numbers, a line's with its four zeros, and the first of a third edge
 abbrev pub seventeen : List ℤ
@@ -85,6 +94,18 @@ caseFigures =
     -- the second of two edges; of no edges none
     ∷ long-case (lengthy 2) true
     ∷ long-case (lengthy 0) false
+    -- no number, the first and the last of three
+    ∷ row-case [] false
+    ∷ row-case (pos 1000001 ∷ pos 0 ∷ pos 0 ∷ []) true
+    ∷ row-case (pos 0 ∷ pos 0 ∷ negsuc 1000000 ∷ []) true
+    ∷ row-case (pos 1000000 ∷ negsuc 999999 ∷ []) false
+    -- none, one, two, 512, 513 and 514 of them
+    ∷ sheaf-case [] true
+    ∷ sheaf-case (replicate 1 (pos 0)) true
+    ∷ sheaf-case (replicate 2 (pos 0)) false
+    ∷ sheaf-case (replicate 512 (pos 0)) false
+    ∷ sheaf-case (replicate 513 (pos 0)) true
+    ∷ sheaf-case (replicate 514 (pos 0)) true
     ∷ []
 
 -- two numbers that some test tells from one another
@@ -136,6 +157,17 @@ point-right (inr (inr (inr (inr (inr (inl h)))))) = not-outside (pos 1) (pos 100
 point-right (inr (inr (inr (inr (inr (inr (inl (i, h)))))))) = no-place i h
 point-right (inr (inr (inr (inr (inr (inr (inr (i, h)))))))) = no-mark i h
 
+ends-right : RowCase (pos 1000000 ∷ negsuc 999999 ∷ []) → ⊥
+ends-right (zero, l, h) = not-outside (negsuc 999999) (pos 1000000) (pos 1000000) (λ e. e) (λ e. e) h
+ends-right (suc zero, l, h) = not-outside (negsuc 999999) (pos 1000000) (negsuc 999999) (λ e. e) (λ e. e) h
+ends-right (suc (suc i), l, h) = absurd (omega arith)
+
+-- an even count of numbers, from 2 to 512
+count-right : (k : ℕ) (zs : List ℤ) → length zs ≡ 2 * suc k → k < 256 → SheafCase zs → ⊥
+count-right k zs e l (inl h) = absurd (omega arith)
+count-right k zs e l (inr (inl h)) = absurd (omega arith)
+count-right k zs e l (inr (inr (m, h))) = absurd (omega arith)
+
 pub cases-hold : AllHold Holds caseFigures
 unfolding isZero isOne Reached strip curved straight sideAt absℤ
 cases-hold =
@@ -151,6 +183,16 @@ cases-hold =
     and inr (inr (inr (inr (inr (inr (inl (7, inl (omega arith, inr (record { lt = tt })))))))))
     and (1, omega arith, (1023, (((((((((((refl, refl), refl), refl), refl), refl), refl), refl), refl), refl), refl), refl)))
     and (λ h. absurd (omega (arith, h .1)))
+    and (λ h. absurd (omega (arith, h .1)))
+    and (0, omega arith, inr (record { lt = tt }))
+    and (2, omega arith, inl (record { lt = tt }))
+    and ends-right
+    and inl refl
+    and inr (inr (0, refl))
+    and count-right 0 (replicate 2 (pos 0)) refl (omega arith)
+    and count-right 255 (replicate 512 (pos 0)) refl (omega arith)
+    and inr (inr (256, refl))
+    and inr (inl (lit< tt))
     and tt
 
 -- ---- of cases 3 and 5 the lowest is 3, and no other number; of none it is 0
@@ -163,6 +205,7 @@ Two long = Unit {0}
 Two store = ⊥
 Two space = ⊥
 Two stranger = ⊥
+Two sheaf = ⊥
 
 pub lowest-of-two : Lowest Two 3
 lowest-of-two = inr (range, refl, tt, least)
@@ -178,3 +221,14 @@ no-other n h (inr (long, e, a, least)) = absurd (let z : 5 ≤ 3 = least range t
 
 pub none-applies : Lowest (λ k. ⊥) 0
 none-applies = inl (refl, λ k h. h)
+
+-- ---- of cases 9 and 5 it is 9 that comes first with many points, though 5 is lower
+abbrev pub TwoOfMany : Refusal → Type 0
+TwoOfMany k = (k ≡ sheaf) ⊎ (k ≡ long)
+
+pub first-of-two : Earliest turn TwoOfMany 9
+first-of-two = inr (sheaf, refl, inl refl, least)
+  where
+    least : (l : Refusal) → TwoOfMany l → turn sheaf ≤ turn l
+    least l (inl e) = rw e (omega arith)
+    least l (inr e) = rw e (omega arith)

@@ -9,7 +9,7 @@ use lib.IntN.{ℤ, pos, negsuc, _-ℤ_}
 use lib.Signed.{_<ℤ_}
 use lib.ListN.{length, getD}
 use Rattle.model.specs.declared.Job.{Job}
-use Rattle.model.specs.Refusals.{Refusal, number, form, edges, range, cell, long, store, space, stranger}
+use Rattle.model.specs.Refusals.{Refusal, number, form, edges, range, cell, long, store, space, stranger, sheaf}
 use Rattle.model.specs.Jobs.{Edge, edgeAt}
 use Rattle.model.specs.Layouts.{Lines, FitsAll, writeAll}
 use Rattle.model.specs.Sheets.{longest, layout, jobOf, sheetOf}
@@ -58,6 +58,10 @@ RangeCase j =
 abbrev pub SpotCase : ℤ → ℤ → Type 0
 SpotCase x y = Strays x ⊎ Strays y
 
+-- 3, of a row of points: of any number of the row
+abbrev pub RowCase : List ℤ → Type 0
+RowCase spots = (i : ℕ) × (i < length spots) × Strays (getD spots i (pos 0))
+
 -- 4: the smallest cell is larger than the plate, or there are more than 2^8 of them a side
 abbrev pub CellCase : Job → Type 0
 CellCase j = (j .n <ℤ j .m) ⊎ (pos 8 <ℤ (j .n -ℤ j .m))
@@ -77,13 +81,17 @@ LongCase j = (i : ℕ) × (i < j .count) × ((k : ℕ) × LongPiece (j .grain) (
 abbrev pub StoreCase : Job → List ℤ → Type 0
 StoreCase j lent = length lent < width * nodesOf j
 
--- 7: there are more bytes to write than bytes lent
-abbrev pub SpaceCase : ℕ → List ℕ → Type 0
+-- 7: there are more bytes to write than bytes lent, or more numbers than numbers lent
+abbrev pub SpaceCase : {A : Type 0} → ℕ → List A → Type 0
 SpaceCase n lent = length lent < n
 
 -- 8: the store does not begin with the trees' numbers
 abbrev pub StrangerCase : Job → List ℤ → Type 0
 StrangerCase j lent = (rest : List ℤ) → lent ≡ storeOf j ++ rest → ⊥
+
+-- 9: no number, more than those of 256 points, or an odd count of them
+abbrev pub SheafCase : List ℤ → Type 0
+SheafCase spots = (length spots ≡ 0) ⊎ ((512 < length spots) ⊎ ((k : ℕ) × (length spots ≡ 2 * k + 1)))
 
 -- ---- which refusals an entry can give, and each one's case there
 -- a sheet states the job of its lines
@@ -99,6 +107,7 @@ ReadApplies sheet long = ⊥
 ReadApplies sheet store = ⊥
 ReadApplies sheet space = ⊥
 ReadApplies sheet stranger = ⊥
+ReadApplies sheet sheaf = ⊥
 
 abbrev pub WriteApplies : Job → List ℕ → Refusal → Type 0
 WriteApplies j out form = ⊥
@@ -109,6 +118,7 @@ WriteApplies j out long = ⊥
 WriteApplies j out store = ⊥
 WriteApplies j out space = SpaceCase (length (sheetOf j)) out
 WriteApplies j out stranger = ⊥
+WriteApplies j out sheaf = ⊥
 
 abbrev pub MapApplies : Job → List ℤ → List ℕ → Refusal → Type 0
 MapApplies j lent cells form = ⊥
@@ -119,6 +129,7 @@ MapApplies j lent cells long = LongCase j
 MapApplies j lent cells store = StoreCase j lent
 MapApplies j lent cells space = SpaceCase (cellsOf j) cells
 MapApplies j lent cells stranger = ⊥
+MapApplies j lent cells sheaf = ⊥
 
 abbrev pub PointApplies : Job → ℤ → ℤ → List ℤ → Refusal → Type 0
 PointApplies j x y lent form = ⊥
@@ -129,7 +140,24 @@ PointApplies j x y lent long = LongCase j
 PointApplies j x y lent store = StoreCase j lent
 PointApplies j x y lent space = ⊥
 PointApplies j x y lent stranger = StrangerCase j lent
+PointApplies j x y lent sheaf = ⊥
 
--- ---- none applies and the number is 0, or it is the lowest of those that do
+-- the points' numbers come by twos, and the reply's by threes
+abbrev pub PointsApplies : Job → List ℤ → List ℤ → List ℤ → Refusal → Type 0
+PointsApplies j spots lent reply form = ⊥
+PointsApplies j spots lent reply edges = EdgesCase j
+PointsApplies j spots lent reply range = RangeCase j ⊎ RowCase spots
+PointsApplies j spots lent reply cell = CellCase j
+PointsApplies j spots lent reply long = LongCase j
+PointsApplies j spots lent reply store = StoreCase j lent
+PointsApplies j spots lent reply space = SpaceCase (3 * (length spots / 2)) reply
+PointsApplies j spots lent reply stranger = StrangerCase j lent
+PointsApplies j spots lent reply sheaf = SheafCase spots
+
+-- ---- none applies and the number is 0, or it is that of the one that applies and comes first in an order
+abbrev pub Earliest : (Refusal → ℕ) → (Refusal → Type 0) → ℕ → Type 0
+Earliest order Applies n = ((n ≡ 0) × ((k : Refusal) → Applies k → ⊥)) ⊎ ((k : Refusal) × (n ≡ number k) × Applies k × ((l : Refusal) → Applies l → order k ≤ order l))
+
+-- in the order of the numbers: the lowest of those that apply
 abbrev pub Lowest : (Refusal → Type 0) → ℕ → Type 0
-Lowest Applies n = ((n ≡ 0) × ((k : Refusal) → Applies k → ⊥)) ⊎ ((k : Refusal) × (n ≡ number k) × Applies k × ((l : Refusal) → Applies l → number k ≤ number l))
+Lowest = Earliest number

@@ -1,4 +1,4 @@
--- Figures of the entries: checks stand in the order of their numbers, of any two refusals that apply the lower is given, memory lent is long
+-- Figures of the entries: checks stand in their order, of any two refusals that apply the one whose check comes first is given, memory lent is long
 -- enough or one place too short, what it holds afterwards, and what the program lends. Everything is computed. Assumes nothing.
 use mathlib.Core.Path.{_≡_, refl}
 use mathlib.Core.Bool.{Bool, true, false}
@@ -13,8 +13,9 @@ use Rattle.model.specs.declared.Job.{Job}
 use Rattle.model.specs.declared.Written.{Written}
 use Rattle.model.specs.declared.Map.{Map}
 use Rattle.model.specs.declared.Nearest.{Nearest}
-use Rattle.model.specs.Refusals.{range, cell, Checks, first, check, rises, accepted}
-use Rattle.model.specs.Jobs.{between, coordinate, isZero, placed, isOne, spare, kind, marked, counted, ranged, celled, judge, edgesFrom, outline}
+use Rattle.model.specs.Refusals as refusals
+use Rattle.model.specs.Refusals.{Refusal, form, edges, range, cell, sheaf, store, space, stranger, Checks, first, check, turn, rises, accepted}
+use Rattle.model.specs.Jobs.{between, coordinate, coordinates, isZero, placed, isOne, spare, kind, marked, counted, ranged, celled, judge, judgeWith, edgesFrom, outline}
 use Rattle.model.specs.Bytes.{bytes, digit}
 use Rattle.model.specs.Numbers.{decimal, text, moreDigits, natural, number}
 use Rattle.model.specs.Forms.{writeForm, byte, readForm}
@@ -27,13 +28,15 @@ use Rattle.model.specs.Roots.{rootBy, root}
 use Rattle.model.specs.Explore.{isInside, isAway₁, isAway₂, explore, exploreAll}
 use Rattle.model.specs.Plates.{drawn, mapped, mapOf}
 use Rattle.model.specs.Distance.{leaves, leavesAll, least, firstAt}
-use Rattle.model.specs.Entries.{readChecks, readAnswer, read, writeRefusal, write, writeLeaves, mapRefusal, map, mapStore, mapCells, pointRefusal, point}
+use Rattle.model.specs.Entries.{readChecks, readAnswer, read, writeRefusal, write, writeLeaves, mapRefusal, map, mapStore, mapCells, pointRefusal, point, spotsFit, replies, pointsRefusal, pointsReply}
 use Rattle.model.specs.Printing.{rowText, rowsText, mapForm, refusedForm, mapText, storeLent, cellsLent, answered, mapAnswered, printed}
 use Rattle.model.specs.FigureTables.{AllHold, _and_, job, mixedJob}
 
 pub data Figure : Type 0 where
-  -- whether the numbers of some checks rise, from n on
-  rise : ℕ → Checks → Bool → Figure
+  -- whether some checks stand in an order, from place n on
+  rise : (Refusal → ℕ) → ℕ → Checks → Bool → Figure
+  -- a job's refusal, where one more test of range passes or fails
+  judged-with : Job → Bool → ℕ → Figure
   -- a sheet, and the refusal that its checks give
   read-checked : String → ℕ → Figure
   -- writing a job into memory that holds this: the answer, and what the memory holds then
@@ -48,6 +51,10 @@ pub data Figure : Type 0 where
   point-refused : Job → ℤ → ℤ → List ℤ → ℕ → Figure
   -- the whole answer
   point-of : Job → ℤ → ℤ → List ℤ → Nearest → Figure
+  -- asking for a row of points, with this store and a reply that holds this: the refusal, and what the reply holds then
+  points-of : Job → List ℤ → List ℤ → List ℤ → ℕ → List ℤ → Figure
+  -- the refusal, with so many numbers of reply lent
+  points-refused : Job → List ℤ → List ℤ → ℕ → ℕ → Figure
   -- how many numbers and how many bytes the program lends
   lends : ℕ → ℕ → Figure
   -- the program's input and what it prints, or how that begins
@@ -55,7 +62,8 @@ pub data Figure : Type 0 where
   prints-first : String → String → Figure
 
 abbrev pub Holds : Figure → Type 0
-Holds (rise n cs b) = rises n cs ≡ b
+Holds (rise o n cs b) = rises o n cs ≡ b
+Holds (judged-with j b k) = judgeWith j b ≡ k
 Holds (read-checked s k) = first (readChecks (readSheet (bytes s))) ≡ k
 Holds (writes j out w left) = (write j out ≡ w) × (writeLeaves j out ≡ left)
 Holds (write-refused j n k) = writeRefusal j (replicate n 0) ≡ k
@@ -63,6 +71,8 @@ Holds (maps j s c a t d) = (map j s c ≡ a) × (mapStore j s c ≡ t) × (mapCe
 Holds (map-refused j s c k) = mapRefusal j (replicate s (pos 0)) (replicate c 0) ≡ k
 Holds (point-refused j x y ns k) = pointRefusal j x y ns ≡ k
 Holds (point-of j x y ns a) = point j x y ns ≡ a
+Holds (points-of j ps ns old k new) = (pointsRefusal j ps ns old ≡ k) × (pointsReply j ps ns old ≡ new)
+Holds (points-refused j ps ns n k) = pointsRefusal j ps ns (replicate n (pos 0)) ≡ k
 Holds (lends s c) = (storeLent ≡ s) × (cellsLent ≡ c)
 Holds (prints s t) = printed (bytes s) ≡ bytes t
 Holds (prints-first s t) = take (length (bytes t)) (printed (bytes s)) ≡ bytes t
@@ -114,10 +124,21 @@ off = pos 1000001
 -- ---- checks in their order, and those of reading
 abbrev pub checkFigures : List Figure
 checkFigures =
-    rise 3 [] true
-    ∷ rise 3 (check range true ++ (check range false ++ check cell true)) true
-    ∷ rise 4 (check range true) false
-    ∷ rise 3 (check cell true ++ check range true) false
+    rise refusals.number 3 [] true
+    ∷ rise refusals.number 3 (check range true ++ (check range false ++ check cell true)) true
+    ∷ rise refusals.number 4 (check range true) false
+    ∷ rise refusals.number 3 (check cell true ++ check range true) false
+    ∷ rise refusals.number 1 (check cell true ++ (check sheaf true ++ check refusals.long true)) false
+    -- the order of many points' checks
+    ∷ rise turn 1 (check form true ++ (check edges true ++ (check range true ++ (check cell true ++ (check sheaf true ++ (check refusals.long true ++ (check store true ++ (check space true ++ check stranger true)))))))) true
+    ∷ rise turn 1 (check sheaf true ++ check cell true) false
+    ∷ rise turn 1 (check refusals.long true ++ check sheaf true) false
+    ∷ judged-with sound true 0
+    ∷ judged-with sound false 3
+    ∷ judged-with (small (pos 0) 0 (pos 0)) false 2
+    ∷ judged-with (small (pos 0) 1 (pos 2)) false 3
+    ∷ judged-with (small (pos 0) 1 (pos 2)) true 4
+    ∷ judged-with (small off 1 (pos 0)) true 3
     ∷ read-checked "" 1
     ∷ read-checked soundSheet 0
     ∷ read-checked "(job\n(plate 0 0 0)\n(cell 1)\n(reach 0)\n)\n" 2
@@ -188,6 +209,48 @@ pointFigures =
     ∷ point-of pair (pos 9) (pos 1) (replicate 22 (pos 2)) (refused 8)
     ∷ []
 
+-- ---- asking for many
+abbrev pub manyFigures : List Figure
+manyFigures =
+    -- a coordinate's ends, in x and in y, of the first point and of the last
+    points-refused sound (pos 1000000 ∷ negsuc 999999 ∷ negsuc 999999 ∷ pos 1000000 ∷ []) soundStore 6 0
+    ∷ points-refused sound (pos 1000001 ∷ pos 0 ∷ pos 0 ∷ pos 0 ∷ []) soundStore 6 3
+    ∷ points-refused sound (pos 0 ∷ negsuc 1000000 ∷ pos 0 ∷ pos 0 ∷ []) soundStore 6 3
+    ∷ points-refused sound (pos 0 ∷ pos 0 ∷ negsuc 1000000 ∷ pos 0 ∷ []) soundStore 6 3
+    ∷ points-refused sound (pos 0 ∷ pos 0 ∷ pos 0 ∷ pos 1000001 ∷ []) soundStore 6 3
+    -- how many numbers
+    ∷ points-refused sound (replicate 2 (pos 0)) soundStore 3 0
+    ∷ points-refused sound (replicate 510 (pos 0)) soundStore 765 0
+    ∷ points-refused sound (replicate 511 (pos 0)) soundStore 768 9
+    ∷ points-refused sound (replicate 513 (pos 0)) soundStore 771 9
+    -- of two that apply
+    ∷ points-refused (small (pos 0) 0 (pos 2)) (off ∷ []) [] 0 2
+    ∷ points-refused (small off 1 (pos 2)) [] [] 0 3
+    ∷ points-refused (small (pos 0) 1 (pos 2)) (off ∷ []) [] 0 3
+    ∷ points-refused (long (pos 2)) [] [] 0 4
+    ∷ points-refused (long (pos 0)) (pos 0 ∷ []) [] 0 9
+    ∷ points-refused sound (pos 0 ∷ []) [] 0 9
+    ∷ points-refused sound (pos 0 ∷ []) soundStore 0 9
+    ∷ points-refused sound (pos 0 ∷ []) (replicate 11 (pos 5)) 3 9
+    ∷ points-refused (long (pos 0)) (replicate 2 (pos 0)) [] 0 5
+    ∷ points-refused sound (replicate 2 (pos 0)) (replicate 10 (pos 5)) 0 6
+    ∷ points-refused sound (replicate 2 (pos 0)) (replicate 11 (pos 5)) 2 7
+    ∷ points-refused sound (replicate 4 (pos 0)) (replicate 11 (pos 5)) 5 7
+    ∷ points-refused sound (replicate 4 (pos 0)) (replicate 11 (pos 5)) 6 8
+    -- replies in the points' order, where x and y exchanged, or a point's in another's place, would show; the longer store and reply keep the rest
+    ∷ points-of pair (pos 9 ∷ pos 1 ∷ pos 4 ∷ pos 12 ∷ pos 1 ∷ pos 2 ∷ []) (pairStore ++ (pos 5 ∷ [])) (replicate 11 (pos 6)) 0
+    (pos 9472 ∷ pos 9472 ∷ pos 1 ∷ pos 15616 ∷ pos 15616 ∷ pos 1 ∷ pos 1280 ∷ pos 1280 ∷ pos 0 ∷ pos 6 ∷ pos 6 ∷ [])
+    -- the bounds apart, the same point twice, and not one number over
+    ∷ points-of ruled (pos 9 ∷ pos 11 ∷ pos 9 ∷ pos 11 ∷ []) ruledStore (replicate 6 (pos 6)) 0 (pos 3328 ∷ pos 4352 ∷ pos 0 ∷ pos 3328 ∷ pos 4352 ∷ pos 0 ∷ [])
+    -- refused, the reply is as it was
+    ∷ points-of pair (pos 9 ∷ pos 1 ∷ off ∷ pos 0 ∷ []) pairStore (replicate 6 (pos 6)) 3 (replicate 6 (pos 6))
+    ∷ points-of (paired (pos 2) (pos 9)) (pos 9 ∷ pos 1 ∷ []) pairStore (replicate 3 (pos 6)) 4 (replicate 3 (pos 6))
+    ∷ points-of pair (pos 9 ∷ pos 1 ∷ pos 4 ∷ []) pairStore (replicate 6 (pos 6)) 9 (replicate 6 (pos 6))
+    ∷ points-of pair (pos 9 ∷ pos 1 ∷ []) [] (replicate 3 (pos 6)) 6 (replicate 3 (pos 6))
+    ∷ points-of pair (pos 9 ∷ pos 1 ∷ pos 4 ∷ pos 12 ∷ []) pairStore (replicate 5 (pos 6)) 7 (replicate 5 (pos 6))
+    ∷ points-of pair (pos 9 ∷ pos 1 ∷ []) (replicate 22 (pos 2)) (replicate 3 (pos 6)) 8 (replicate 3 (pos 6))
+    ∷ []
+
 -- ---- printing
 abbrev pub printFigures : List Figure
 printFigures =
@@ -207,8 +270,9 @@ printFigures =
 
 -- ---- the statements
 pub checking-holds : AllHold Holds checkFigures
-unfolding readSheet ended layout tailLayout jobForm plateForm cellForm reachForm grainForm edgeForm lineForm endForm readAll readLines readLine readForm byte number natural moreDigits digit joined fit marksOf placesOf counted ranged celled between coordinate isZero placed isOne spare kind marked
-checking-holds = refl and refl and refl and refl and refl and refl and refl and refl and refl and tt
+unfolding judgeWith readSheet ended layout tailLayout jobForm plateForm cellForm reachForm grainForm edgeForm lineForm endForm readAll readLines readLine readForm byte number natural moreDigits digit joined fit marksOf placesOf counted ranged celled between coordinate isZero placed isOne spare kind marked
+checking-holds =
+    refl and refl and refl and refl and refl and refl and refl and refl and refl and refl and refl and refl and refl and refl and refl and refl and refl and refl and refl and tt
 
 pub writing-holds : AllHold Holds writeFigures
 unfolding write writeLeaves writeRefusal accepted counted ranged celled between coordinate isZero placed isOne spare kind marked layout tailLayout jobForm plateForm cellForm reachForm grainForm edgeForm lineForm endForm sheetOf writeAll writeLines writeLine writeForm text decimal stated same edgeLines
@@ -228,6 +292,14 @@ unfolding point pointRefusal accepted counted ranged celled between coordinate i
 asking-holds =
     refl and refl and refl and refl and refl and refl and refl and refl and refl and refl and refl and refl and refl
     and refl and refl and refl and refl and refl and refl and refl and refl and refl
+    and tt
+
+pub asking-many-holds : AllHold Holds manyFigures
+unfolding pointsRefusal pointsReply spotsFit replies accepted counted ranged celled between coordinate coordinates isZero placed isOne spare kind marked forest outline edgesFrom curved straight sideAt strip absℤ tree pieces begins same leaves leavesAll least firstAt
+asking-many-holds =
+    refl and refl and refl and refl and refl and refl and refl and refl and refl and refl and refl and refl and refl
+    and refl and refl and refl and refl and refl and refl and refl and refl and refl
+    and (refl, refl) and (refl, refl) and (refl, refl) and (refl, refl) and (refl, refl) and (refl, refl) and (refl, refl) and (refl, refl)
     and tt
 
 pub printing-holds : AllHold Holds printFigures

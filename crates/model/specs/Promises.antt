@@ -10,7 +10,7 @@ use lib.ListN.{length, getD, take}
 use Rattle.basics.specs.Orders.{_≼_, num⁺}
 use Rattle.model.specs.declared.Job.{Job}
 use Rattle.model.specs.declared.Read.{Read}
-use Rattle.model.specs.Refusals.{Refusal}
+use Rattle.model.specs.Refusals.{Refusal, turn}
 use Rattle.model.specs.Jobs.{coordinate, outline, cellLog, judge}
 use Rattle.model.specs.Bytes.{bytes}
 use Rattle.model.specs.Sheets.{sheetOf}
@@ -23,9 +23,9 @@ use Rattle.model.specs.Plates.{Verdict, letter, columns, cellsOf, mapOf}
 use Rattle.model.specs.Exact.{Points, Outline, CellPoint, Clear, Inside, Exact, R-E, R+E, NoCloser, SomeNear, Demand3}
 use Rattle.model.specs.Distance.{leaves, lo, hi, named, Attains}
 use Rattle.model.specs.Lookup.{State, lookup}
-use Rattle.model.specs.Entries.{read, writeRefusal, write, writeLeaves, mapRefusal, map, mapCells, pointRefusal, point}
+use Rattle.model.specs.Entries.{read, writeRefusal, write, writeLeaves, mapRefusal, map, mapCells, pointRefusal, point, spotsIn, spotsFit, pointsRefusal, pointsReply}
 use Rattle.model.specs.Printing.{printed}
-use Rattle.model.specs.Cases.{ReadApplies, WriteApplies, MapApplies, PointApplies, Lowest}
+use Rattle.model.specs.Cases.{ReadApplies, WriteApplies, MapApplies, PointApplies, PointsApplies, Earliest, Lowest}
 
 -- a job value of the code: its outline has 64 places of eight numbers, and 64 marks
 abbrev pub Whole : Job → Type 0
@@ -47,9 +47,16 @@ MapLowest = (j : Job) (store : List ℤ) (cells : List ℕ) → Lowest (MapAppli
 abbrev pub PointLowest : Type 0
 PointLowest = (j : Job) (x y : ℤ) (store : List ℤ) → Lowest (PointApplies j x y store) (point j x y store .refusal)
 
+-- of many points, the number whose check comes first of those that apply
+abbrev pub PointsEarliest : Type 0
+PointsEarliest = (j : Job) (spots store reply : List ℤ) → Earliest turn (PointsApplies j spots store reply) (pointsRefusal j spots store reply)
+
 -- and that is one number
 abbrev pub LowestOne : Type 1
 LowestOne = (Applies : Refusal → Type 0) (m n : ℕ) → Lowest Applies m → Lowest Applies n → m ≡ n
+
+abbrev pub EarliestOne : Type 1
+EarliestOne = (Applies : Refusal → Type 0) (m n : ℕ) → Earliest turn Applies m → Earliest turn Applies n → m ≡ n
 
 -- ---- demand 2: the round trips
 -- a legal job's sheet reads back as that job
@@ -188,6 +195,59 @@ FirstOne = (j : Job) (x y : ℤ) (d e : ℕ) → FirstEdge j x y d → FirstEdge
 abbrev pub PointFirst : Type 0
 PointFirst = (j : Job) (x y : ℤ) (store : List ℤ) → point j x y store .refusal ≡ 0 → FirstEdge j x y (point j x y store .edge)
 
+-- ---- many points in one call
+-- the k-th point of a row, and the three numbers of the k-th reply
+abbrev pub spotX : List ℤ → ℕ → ℤ
+spotX spots k = getD spots (2 * k) (pos 0)
+
+abbrev pub spotY : List ℤ → ℕ → ℤ
+spotY spots k = getD spots (2 * k + 1) (pos 0)
+
+abbrev pub loAt : List ℤ → ℕ → ℤ
+loAt reply k = getD reply (3 * k) (pos 0)
+
+abbrev pub hiAt : List ℤ → ℕ → ℤ
+hiAt reply k = getD reply (3 * k + 1) (pos 0)
+
+abbrev pub namedAt : List ℤ → ℕ → ℤ
+namedAt reply k = getD reply (3 * k + 2) (pos 0)
+
+-- the k-th point would be accepted alone, and its reply is what it would get alone
+pub record Alone (j : Job) (spots store reply : List ℤ) (k : ℕ) : Type 0 where
+  pub given : point j (spotX spots k) (spotY spots k) store .refusal ≡ 0
+  pub lo-is : loAt reply k ≡ point j (spotX spots k) (spotY spots k) store .lo
+  pub hi-is : hiAt reply k ≡ point j (spotX spots k) (spotY spots k) store .hi
+  pub edge-is : namedAt reply k ≡ pos (point j (spotX spots k) (spotY spots k) store .edge)
+
+-- so is every point of an accepted call
+abbrev pub PointsAlone : Type 0
+PointsAlone = (j : Job) (spots store reply : List ℤ) → pointsRefusal j spots store reply ≡ 0 → (k : ℕ) → k < spotsIn spots → Alone j spots store (pointsReply j spots store reply) k
+
+-- the k-th reply in one row is the m-th in another
+pub record SameReply (one : List ℤ) (k : ℕ) (other : List ℤ) (m : ℕ) : Type 0 where
+  pub lo-same : loAt one k ≡ loAt other m
+  pub hi-same : hiAt one k ≡ hiAt other m
+  pub edge-same : namedAt one k ≡ namedAt other m
+
+-- the order of the points only orders the replies: a point that stands k-th in one row and m-th in another has the k-th reply to the one and the
+-- m-th to the other, and they are the same
+abbrev pub PointsOrder : Type 0
+PointsOrder =
+    (j : Job) (one other store reply left : List ℤ) → pointsRefusal j one store reply ≡ 0 → pointsRefusal j other store left ≡ 0
+    → (k m : ℕ) → k < spotsIn one → m < spotsIn other → spotX one k ≡ spotX other m → spotY one k ≡ spotY other m
+    → SameReply (pointsReply j one store reply) k (pointsReply j other store left) m
+
+-- past three numbers a point the reply keeps what it had
+abbrev pub PointsPast : Type 0
+PointsPast = (j : Job) (spots store reply : List ℤ) → (i : ℕ) → 3 * spotsIn spots ≤ i → getD (pointsReply j spots store reply) i (pos 0) ≡ getD reply i (pos 0)
+
+-- what each reply of an accepted call bounds
+abbrev pub PointsHold : Job → List ℤ → List ℤ → Type 0
+PointsHold j spots reply = (k : ℕ) → k < spotsIn spots → Bounds j (wholePoint (spotX spots k) (spotY spots k)) (loAt reply k) (hiAt reply k)
+
+abbrev pub PointsTrue : Type 0
+PointsTrue = (j : Job) (spots store reply : List ℤ) → pointsRefusal j spots store reply ≡ 0 → PointsHold j spots (pointsReply j spots store reply)
+
 -- ---- the box of a tree holds the upright box of each of its leaves, and lies in every box that does
 pub record Within (a b : Box) : Type 0 where
   pub left : b .x .least ≼ a .x .least
@@ -226,12 +286,22 @@ MapRoom = (j : Job) (store : List ℤ) (cells : List ℕ) → 65536 ≤ length c
 abbrev pub MapFills : Type 0
 MapFills = (j : Job) × Whole j × (judge j ≡ 0) × (cellsOf j ≡ 65536)
 
--- 1,441,088 numbers for a store: no map and no point is refused 6; and a job that has as many, 11 for each of 2,047 nodes of 64 trees
+-- 1,441,088 numbers for a store: no map, no point and no row of points is refused 6; and a job that has as many, 11 for each of 2,047 nodes of 64
+-- trees
 abbrev pub StoreRoom : Type 0
-StoreRoom = (j : Job) (store : List ℤ) → 1441088 ≤ length store → ((cells : List ℕ) → mapRefusal j store cells ≡ 6 → ⊥) × ((x y : ℤ) → pointRefusal j x y store ≡ 6 → ⊥)
+StoreRoom =
+    (j : Job) (store : List ℤ) → 1441088 ≤ length store
+    → ((cells : List ℕ) → mapRefusal j store cells ≡ 6 → ⊥) × ((x y : ℤ) → pointRefusal j x y store ≡ 6 → ⊥) × ((spots reply : List ℤ) → pointsRefusal j spots store reply ≡ 6 → ⊥)
 
 abbrev pub StoreFills : Type 0
 StoreFills = (j : Job) × Whole j × (judge j ≡ 0) × (anyLong (forest j) ≡ false) × (nodesOf j ≡ 131008)
+
+-- 768 numbers for a reply: no row of points is refused 7; and a row that has as many
+abbrev pub ReplyRoom : Type 0
+ReplyRoom = (j : Job) (spots store reply : List ℤ) → 768 ≤ length reply → pointsRefusal j spots store reply ≡ 7 → ⊥
+
+abbrev pub ReplyFills : Type 0
+ReplyFills = (spots : List ℤ) × (spotsFit spots ≡ true) × (3 * spotsIn spots ≡ 768)
 
 -- so the program, which lends 65,536 bytes, prints no refusal 7
 abbrev pub NeverSpace : Type 0

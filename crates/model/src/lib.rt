@@ -1,7 +1,7 @@
 // The plain data that code and contracts share, by value. What each number means stands in specs/, in the order of docs/RULES.md.
 ghost use mathlib.Core.Path.{_≡_};
 ghost use mathlib.Core.List.{[], _∷_};
-ghost use Rattle.model.specs.Refusals.{number, form, edges, range, cell, long, store, space, stranger};
+ghost use Rattle.model.specs.Refusals.{number, form, edges, range, cell, long, store, space, stranger, sheaf};
 ghost use Rattle.model.specs.Plates.{letter, clear, within, doubtful};
 
 // A job: the plate's lower left corner, N, M, the reach, the grain, and the outline as a count of edges, 64 places of eight numbers and 64
@@ -63,6 +63,8 @@ pub const SPACE: u8 = 7;
 
 pub const STRANGER: u8 = 8;
 
+pub const SHEAF: u8 = 9;
+
 pub const CLEAR: u8 = 67;
 
 pub const INSIDE: u8 = 73;
@@ -70,10 +72,20 @@ pub const INSIDE: u8 = 73;
 pub const DOUBTFUL: u8 = 68;
 
 // That the constants are the definitions' numbers: a contract cannot name a constant, so this one states it of all in a row.
-pub fn numbers() -> [u8; 8]
-    ensures each { λ r. ⌜ r ≡ number form ∷ number edges ∷ number range ∷ number cell ∷ number long ∷ number store ∷ number space ∷ number stranger ∷ [] ⌝ }
+pub fn numbers() -> [u8; 9]
+    ensures each { λ r. ⌜ r ≡ number form ∷ number edges ∷ number range ∷ number cell ∷ number long ∷ number store ∷ number space ∷ number stranger ∷ number sheaf ∷ [] ⌝ }
 {
-    [FORM, EDGES, RANGE, CELL, LONG, STORE, SPACE, STRANGER]
+    [
+        FORM,
+        EDGES,
+        RANGE,
+        CELL,
+        LONG,
+        STORE,
+        SPACE,
+        STRANGER,
+        SHEAF,
+    ]
 }
 
 pub fn letters() -> [u8; 3]

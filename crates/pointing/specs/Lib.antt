@@ -1,2 +1,2 @@
--- The checks of a point's entry.
-pub mod Checks
+-- The answer of a refused point.
+pub mod Refused

@@ -14,11 +14,12 @@ use lib.Seq.{getD-drop}
 use borrow.Author.Tests.{lt-leb, leb-false, eqb-true, eqb-false}
 use Rattle.integers.specs.Tests.{le-true, or-true, or-yes}
 use Rattle.model.specs.declared.Job.{Job}
-use Rattle.model.specs.Jobs.{Edge, between, coordinate, isZero, isOne, spare, kind, placed, marked, counted, ranged, celled, edgeAt, edgesFrom, outline}
+use Rattle.model.specs.Jobs.{Edge, between, coordinate, coordinates, isZero, isOne, spare, kind, placed, marked, counted, ranged, celled, edgeAt, edgesFrom, outline}
 use Rattle.model.specs.Strips.{strip, short}
 use Rattle.model.specs.Trees.{Tree, leaf, long, node, pieces, tree, trees, isLong, anyLong}
 use Rattle.model.specs.Store.{forest, storeOf, begins}
-use Rattle.model.specs.Cases.{EdgesCase, Outside, Strays, PlaceCase, MarkCase, RangeCase, SpotCase, CellCase, Reached, LongPiece, LongCase, StrangerCase}
+use Rattle.model.specs.Entries.{spotsIn, spotsFit}
+use Rattle.model.specs.Cases.{EdgesCase, Outside, Strays, PlaceCase, MarkCase, RangeCase, SpotCase, RowCase, CellCase, Reached, LongPiece, LongCase, StrangerCase, SheafCase}
 use Rattle.ranges.specs.Equal.{begins-is, begins-self}
 
 -- ---- tests that fail
@@ -49,6 +50,13 @@ less-ℤ y z = ((λ e. ltZ-yes (other y z e)), (λ h. go h (leZ y z) refl))
     go : z <ℤ y → (t : Bool) → leZ y z ≡ t → t ≡ false
     go h true e = clashℤ h (le-true e)
     go h false e = refl
+
+unlike : (m n : ℕ) → Just (eqb m n) (m ≡ n → ⊥)
+unlike m n = (eqb-false m n, (λ h. go (eqb m n) refl h))
+  where
+    go : (t : Bool) → eqb m n ≡ t → (m ≡ n → ⊥) → t ≡ false
+    go true e h = absurd (h (eqb-true m n e))
+    go false e h = refl
 
 as-well : (b : Bool) (P Q : Type 0) → Just b P → (P → Q) → (Q → P) → Just b Q
 as-well b P Q p f g = ((λ e. f (p .0 e)), (λ h. p .1 (g h)))
@@ -215,6 +223,19 @@ range-row j =
 pub spot-row : (x y : ℤ) → Just (coordinate x && coordinate y) (SpotCase x y)
 spot-row x y = either (coordinate x) (coordinate y) _ _ (coordinate-row x) (coordinate-row y)
 
+pub row-row : (zs : List ℤ) → Just (coordinates zs) (RowCase zs)
+unfolding coordinates
+row-row [] = ((λ e. absurd (subst T e tt)), (λ h. absurd (omega (arith, h .1))))
+row-row (z ∷ zs) = as-well (coordinate z && coordinates zs) _ _ (either (coordinate z) (coordinates zs) _ _ (coordinate-row z) (row-row zs)) to from
+  where
+    to : Strays z ⊎ RowCase zs → RowCase (z ∷ zs)
+    to (inl h) = (0, omega arith, h)
+    to (inr (i, l, h)) = (suc i, omega (arith, l), h)
+
+    from : RowCase (z ∷ zs) → Strays z ⊎ RowCase zs
+    from (zero, l, h) = inl h
+    from (suc i, l, h) = inr (i, omega (arith, l), h)
+
 -- ---- 5: a long end is a piece that is reached and not short, found by going down from the whole edge and up again
 module _ (G : ℤ) (e : Edge) where
   abbrev End : ℕ → Type 0
@@ -327,3 +348,26 @@ stranger-row j lent = ((λ e rest h. subst T (sym (begins-self (storeOf j) rest)
     go : StrangerCase j lent → (t : Bool) → begins lent (storeOf j) ≡ t → t ≡ false
     go h true e = absurd (h (drop (length (storeOf j)) lent) (begins-is lent (storeOf j) e))
     go h false e = refl
+
+-- ---- 9
+pub sheaf-row : (zs : List ℤ) → Just (spotsFit zs) (SheafCase zs)
+unfolding spotsFit
+sheaf-row zs = as-well (spotsFit zs) _ _ (either _ _ _ _ (less 1 (spotsIn zs)) (either _ _ _ _ (less (spotsIn zs) 256) (unlike (length zs) (2 * spotsIn zs)))) to from
+  where
+    to : (spotsIn zs < 1) ⊎ ((256 < spotsIn zs) ⊎ (length zs ≡ 2 * spotsIn zs → ⊥)) → SheafCase zs
+    to (inl h) = few (eqb (length zs) 0) refl
+      where
+        few : (t : Bool) → eqb (length zs) 0 ≡ t → SheafCase zs
+        few true e = inl (eqb-true (length zs) 0 e)
+        few false e = let n = eqb-false (length zs) 0 e in inr (inr (0, omega arith))
+    to (inr (inl h)) = inr (inl (omega arith))
+    to (inr (inr h)) = inr (inr (spotsIn zs, omega arith))
+
+    from : SheafCase zs → (spotsIn zs < 1) ⊎ ((256 < spotsIn zs) ⊎ (length zs ≡ 2 * spotsIn zs → ⊥))
+    from (inl h) = inl (omega arith)
+    from (inr (inl h)) = many (eqb (length zs) 513) refl
+      where
+        many : (t : Bool) → eqb (length zs) 513 ≡ t → (spotsIn zs < 1) ⊎ ((256 < spotsIn zs) ⊎ (length zs ≡ 2 * spotsIn zs → ⊥))
+        many true e = let n = eqb-true (length zs) 513 e in inr (inr (λ w. absurd (omega arith)))
+        many false e = let n = eqb-false (length zs) 513 e in inr (inl (omega arith))
+    from (inr (inr (k, h))) = inr (inr (λ w. absurd (omega arith)))

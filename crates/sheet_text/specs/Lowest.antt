@@ -7,13 +7,13 @@ use mathlib.Core.Logic.{_⊎_, inl, inr}
 use Prim.Native.Nat.{ℕ}
 use lib.Dec.{T}
 use Rattle.model.specs.declared.Job.{Job}
-use Rattle.model.specs.Refusals.{Refusal, first, form, edges, range, cell, long, store, space, stranger}
+use Rattle.model.specs.Refusals.{Refusal, number, first, form, edges, range, cell, long, store, space, stranger, sheaf}
 use Rattle.model.specs.Layouts.{Lines}
 use Rattle.model.specs.Sheets.{Sheet, lines, broken, jobOf, readSheet}
 use Rattle.model.specs.Entries.{readChecks}
 use Rattle.model.specs.Cases.{Formed, FormCase, EdgesCase, RangeCase, CellCase, States, ReadApplies, Lowest}
 use Rattle.model.specs.Promises.{ReadLowest}
-use Rattle.ranges.specs.Refusals.{Fails, lowest}
+use Rattle.ranges.specs.Refusals.{Fails, earliest}
 use Rattle.ranges.specs.Cases.{edges-row, range-row, cell-row}
 use Rattle.ranges.specs.Lowest.{read-by}
 use Rattle.sheet_text.specs.Sheets.{formed-read, text-sheet}
@@ -38,6 +38,7 @@ read-lowest s = subst (Lowest (ReadApplies s)) (sym (read-by s)) (go (readSheet 
     some gs e store h = absurd h
     some gs e space h = absurd h
     some gs e stranger h = absurd h
+    some gs e sheaf h = absurd h
 
     unread : FormCase s → (k : Refusal) → ReadApplies s k → Fails k (readChecks broken)
     unread u form h = inl (refl, refl)
@@ -48,9 +49,10 @@ read-lowest s = subst (Lowest (ReadApplies s)) (sym (read-by s)) (go (readSheet 
     unread u store h = absurd h
     unread u space h = absurd h
     unread u stranger h = absurd h
+    unread u sheaf h = absurd h
 
     go : (r : Sheet) → readSheet s ≡ r → Lowest (ReadApplies s) (first (readChecks r))
-    go broken e = let u = unformed s e in lowest (ReadApplies s) 1 (readChecks broken) refl ((λ z. u), tt) (unread u)
+    go broken e = let u = unformed s e in earliest number (ReadApplies s) 1 (readChecks broken) refl ((λ z. u), tt) (unread u)
     go (lines gs) e =
         let by : States s (jobOf gs) = (gs, text-sheet s gs e, refl) in
-        lowest (ReadApplies s) 1 (readChecks (lines gs)) refl ((λ z. (jobOf gs, by, edges-row (jobOf gs) .0 z)), ((λ z. (jobOf gs, by, range-row (jobOf gs) .0 z)), ((λ z. (jobOf gs, by, cell-row (jobOf gs) .0 z)), tt))) (some gs e)
+        earliest number (ReadApplies s) 1 (readChecks (lines gs)) refl ((λ z. (jobOf gs, by, edges-row (jobOf gs) .0 z)), ((λ z. (jobOf gs, by, range-row (jobOf gs) .0 z)), ((λ z. (jobOf gs, by, cell-row (jobOf gs) .0 z)), tt))) (some gs e)

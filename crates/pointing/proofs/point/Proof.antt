@@ -1,6 +1,6 @@
 -- Each return is one of the answers of `Found`. Assumes nothing.
 use mathlib.Core.Path.{_≡_, refl, sym, ap, _∙_}
-use mathlib.Core.Bool.{true}
+use mathlib.Core.Bool.{true, _&&_}
 use borrow.Author.Needs.{needs}
 use lib.ListN.{length}
 use mir.Syntax.{w32}
@@ -8,18 +8,18 @@ use mir.Val.{toZ, ofZ}
 use mir.Facts.{toZ-ofZ}
 use Rattle.integers.specs.Signed.{fits32, read64}
 use Rattle.model.specs.Refusals.{check, first, stranger}
-use Rattle.model.specs.Jobs.{outline}
+use Rattle.model.specs.Jobs.{coordinate, judgeWith, outline}
 use Rattle.model.specs.Store.{forest, storeOf, begins}
 use Rattle.model.specs.Lookup.{State}
 use Rattle.ranges.specs.Jobs.{grain-sized}
+use Rattle.subtrees.specs.Sizes.{forest-held}
 use Rattle.forests.specs.Told.{checksOf, Told, told-of, trees-ready, whole-ready}
-use Rattle.pointing.specs.Checks.{asking}
-use Rattle.pointing.proofs.Found.{refuse, accept, asked, Passed, passed, trees-refused, store-answer, begun, lookup-found, trees-held}
+use Rattle.pointing.proofs.Found.{refuse, accept, asked, Passed, passed, trees-refused, store-answer, begun, lookup-found}
 use Rattle.pointing.proofs.point.Statement.{statement}
 use Rattle.pointing.proofs.point.Tie as tie
 
 -- ---- the checks of numbers
-asking-is : (c : tie.After-ask) → let s = c .before in c .ask .result ≡ asking (s .args .job) (s .args .x) (s .args .y)
+asking-is : (c : tie.After-ask) → let s = c .before in c .ask .result ≡ judgeWith (s .args .job) (coordinate (s .args .x) && coordinate (s .args .y))
 asking-is c = let s = c .before in rw (toZ-ofZ (s .fits .x), toZ-ofZ (s .fits .y)) at (c .ask .ensures)
 
 good : (c : tie.Else1) → let s = c .before .before in Passed (s .args .job) (s .args .x) (s .args .y) (s .args .store .now)
@@ -102,7 +102,7 @@ nearest-requires c κs =
     let g = c .before .before .before .before .before .before .before .before .before .before .before .before in
     let s = g .before .before in
     let p = good g in
-    rw (toZ-ofZ (s .fits .x), toZ-ofZ (s .fits .y)) (record { trees = forest (s .args .job); holds = trees-held (s .args .job) (s .args .x) (s .args .y) (s .args .store .now) p (holds c) }, p .x-in, p .y-in)
+    rw (toZ-ofZ (s .fits .x), toZ-ofZ (s .fits .y)) (record { trees = forest (s .args .job); holds = forest-held (s .args .job) (s .args .store .now) (p .job) (holds c) }, p .x-in, p .y-in)
 
 returns-4 : tie.Need-returns-4
 returns-4 c =
@@ -114,7 +114,7 @@ returns-4 c =
     let s = g .before .before in
     let p = good g in
     let f = d .nearest .result in
-    let a = rw (toZ-ofZ (s .fits .x), toZ-ofZ (s .fits .y)) at (d .nearest .ensures (forest (s .args .job)) (trees-held (s .args .job) (s .args .x) (s .args .y) (s .args .store .now) p (holds o))) in
+    let a = rw (toZ-ofZ (s .fits .x), toZ-ofZ (s .fits .y)) at (d .nearest .ensures (forest (s .args .job)) (forest-held (s .args .job) (s .args .store .now) (p .job) (holds o))) in
     let w = lookup-found (s .args .job) (s .args .x) (s .args .y) (s .args .store .now) p in
     let z = store-answer (s .args .job) (s .args .x) (s .args .y) (s .args .store .now) p (trees-pass e) (h .check-store .result) (store-is h) ∙ o .if3 .left in
     accept (s .args .job) (s .args .x) (s .args .y) (s .args .store .now) _ z refl

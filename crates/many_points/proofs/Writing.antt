@@ -1,0 +1,96 @@
+-- The reply as it is written: three numbers at its front, and one point's reply after those of the points before it. Assumes nothing.
+use mathlib.Core.Path.{_≡_, refl, sym, ap, ap₂, _∙_}
+use mathlib.Core.Bool.{true}
+use mathlib.Core.List.{List, [], _∷_, _++_, append-assoc}
+use Prim.Native.Nat.{ℕ, suc, _+_, _-_, _*_, _/_, _≤_, _<_}
+use native.Mathlib.Numerals.{add-one}
+use native.Mathlib.Omega.{arith}
+use lib.IntN.{ℤ, pos, natAbs}
+use lib.ListN.{length, getD, set, take, drop, length-append, length-drop, take-append-drop}
+use lib.Seq.{take-at, drop-at, drop-cons, drop-drop, length-take-le}
+use mir.Syntax.{w32}
+use mir.Val.{toZ, ofZ}
+use mir.Facts.{toZ-ofZ}
+use borrow.Rule.Slice.PartMut.{putMid, midOf}
+use Rattle.sequences.specs.Parts.{tail-mid, tail-put}
+use Rattle.integers.specs.Signed.{fits32}
+use Rattle.model.specs.Jobs.{coordinates}
+use Rattle.model.specs.Trees.{Tree}
+use Rattle.model.specs.Distance.{lo, hi, named}
+use Rattle.model.specs.Entries.{over, spotsIn, replies}
+use Rattle.model.specs.Promises.{spotX, spotY}
+use Rattle.ranges.specs.Legal.{coordinate-true, coordinate-size, row-in}
+
+-- ---- three numbers at the front
+pub three-set : (l : List ℤ) (a b c : ℤ) → 3 ≤ length l → set (set (set l 0 a) 1 b) 2 c ≡ a ∷ b ∷ c ∷ drop 3 l
+three-set [] a b c h = absurd (omega arith)
+three-set (x ∷ []) a b c h = absurd (omega arith)
+three-set (x ∷ y ∷ []) a b c h = absurd (omega arith)
+three-set (x ∷ y ∷ z ∷ l) a b c h = refl
+
+pub three-eq : {a b c d e f : ℤ} (l : List ℤ) → a ≡ d → b ≡ e → c ≡ f → a ∷ b ∷ c ∷ l ≡ d ∷ e ∷ f ∷ l
+three-eq l p q r = cc
+
+-- ---- a number of the row, read from its bits
+module _ (zs : List ℤ) (i : ℕ) (e : coordinates zs ≡ true) (h : i < length zs) where
+  pub number-size : natAbs (getD zs i (pos 0)) ≤ 1000000
+  number-size = coordinate-size (getD zs i (pos 0)) (coordinate-true (row-in zs i e h))
+
+  pub number-read : toZ w32 (ofZ w32 (getD zs i (pos 0))) ≡ getD zs i (pos 0)
+  number-read = toZ-ofZ (fits32 number-size tt)
+
+-- ---- the next point's two numbers, and its reply before the later ones
+next-spot : (spots : List ℤ) (k : ℕ) → k < spotsIn spots → drop (2 * k) spots ≡ spotX spots k ∷ spotY spots k ∷ drop (2 * (k + 1)) spots
+next-spot spots k h =
+    drop-cons spots (2 * k) (pos 0) (omega arith)
+    ∙ ap (λ (n : ℕ). spotX spots k ∷ drop n spots) (sym (add-one (2 * k)))
+    ∙ ap (λ (l : List ℤ). spotX spots k ∷ l) (drop-cons spots (2 * k + 1) (pos 0) (omega arith))
+    ∙ ap (λ (n : ℕ). spotX spots k ∷ spotY spots k ∷ drop n spots) (let e : suc (2 * k + 1) ≡ 2 * (k + 1) = omega arith in e)
+
+module _ (ts : List Tree) (x y : ℤ) where
+  -- one point's reply
+  abbrev pub three : List ℤ
+  three = lo ts x y ∷ hi ts x y ∷ pos (named ts x y) ∷ []
+
+  first-reply : (rest old : List ℤ) → over (replies ts (x ∷ y ∷ rest)) old ≡ three ++ over (replies ts rest) (drop 3 old)
+  unfolding replies
+  first-reply rest old = ap (λ (l : List ℤ). three ++ (replies ts rest ++ l)) (sym (drop-drop (length (replies ts rest)) 3 old ∙ ap (λ (n : ℕ). drop n old) (let e : 3 + length (replies ts rest) ≡ suc (suc (suc (length (replies ts rest)))) = omega arith in e)))
+
+-- ---- a turn of the loop: l is the reply so far, and ys its part from 3 · k on once the k-th point is answered
+module _ (ts : List Tree) (spots l ys : List ℤ) (k : ℕ) (h : k < spotsIn spots) (r : 3 * spotsIn spots ≤ length l)
+    (e : ys ≡ three ts (spotX spots k) (spotY spots k) ++ drop 3 (midOf (3 * k) (length l - 3 * k) l)) where
+  abbrev front : List ℤ
+  front = take (3 * k) l ++ three ts (spotX spots k) (spotY spots k)
+
+  front-long : length front ≡ 3 * (k + 1)
+  front-long = length-append (take (3 * k) l) (three ts (spotX spots k) (spotY spots k)) ∙ omega (arith, length-take-le (3 * k) l (omega arith))
+
+  left-is : putMid (3 * k) (length l - 3 * k) l ys ≡ front ++ drop 3 (drop (3 * k) l)
+  left-is =
+      tail-put (3 * k) l ys (omega arith)
+      ∙ ap (λ (z : List ℤ). take (3 * k) l ++ z) (e ∙ ap (λ (z : List ℤ). three ts (spotX spots k) (spotY spots k) ++ drop 3 z) (tail-mid (3 * k) l))
+      ∙ sym (append-assoc (take (3 * k) l) (three ts (spotX spots k) (spotY spots k)) (drop 3 (drop (3 * k) l)))
+
+  pub left-long : length (putMid (3 * k) (length l - 3 * k) l ys) ≡ length l
+  left-long = ap length left-is ∙ length-append front (drop 3 (drop (3 * k) l)) ∙ omega (arith, front-long, length-drop 3 (drop (3 * k) l), length-drop (3 * k) l)
+
+  pub one-more : (wanted : List ℤ) → wanted ≡ take (3 * k) l ++ over (replies ts (drop (2 * k) spots)) (drop (3 * k) l) → wanted ≡ take (3 * (k + 1)) (putMid (3 * k) (length l - 3 * k) l ys) ++ over (replies ts (drop (2 * (k + 1)) spots)) (drop (3 * (k + 1)) (putMid (3 * k) (length l - 3 * k) l ys))
+  one-more wanted w =
+      let rest = drop (2 * (k + 1)) spots in
+      w
+      ∙ ap (λ (s : List ℤ). take (3 * k) l ++ over (replies ts s) (drop (3 * k) l)) (next-spot spots k h)
+      ∙ ap (λ (z : List ℤ). take (3 * k) l ++ z) (first-reply ts (spotX spots k) (spotY spots k) rest (drop (3 * k) l))
+      ∙ sym (append-assoc (take (3 * k) l) (three ts (spotX spots k) (spotY spots k)) (over (replies ts rest) (drop 3 (drop (3 * k) l))))
+      ∙ sym (ap₂ (λ (a b : List ℤ). a ++ over (replies ts rest) b) (ap (take (3 * (k + 1))) left-is ∙ take-at front (drop 3 (drop (3 * k) l)) (3 * (k + 1)) front-long) (ap (drop (3 * (k + 1))) left-is ∙ drop-at front (drop 3 (drop (3 * k) l)) (3 * (k + 1)) front-long))
+
+-- ---- after the last point nothing is left to reply
+none-left : (ts : List Tree) (rest : List ℤ) → length rest ≤ 1 → replies ts rest ≡ []
+unfolding replies
+none-left ts [] h = refl
+none-left ts (x ∷ []) h = refl
+none-left ts (x ∷ y ∷ rest) h = absurd (omega arith)
+
+pub all-written : (ts : List Tree) (spots l : List ℤ) (k : ℕ) → spotsIn spots ≤ k → take (3 * k) l ++ over (replies ts (drop (2 * k) spots)) (drop (3 * k) l) ≡ l
+all-written ts spots l k h =
+    ap (λ (z : List ℤ). take (3 * k) l ++ over z (drop (3 * k) l)) (none-left ts (drop (2 * k) spots) (simp length-drop (omega arith)))
+    ∙ take-append-drop (3 * k) l
