@@ -98,10 +98,7 @@ fn accepted(reply: &[i64], written: usize) -> String {
 /// The refusal, and how many numbers of the reply were written nevertheless.
 fn refused(refusal: Refusal, reply: &[i64]) -> String {
     let changed = reply.iter().filter(|&&number| number != BEFORE).count();
-    format!(
-        "{} (changed {changed})\n",
-        listing::refusal(refusal).trim_end()
-    )
+    format!("{}(changed {changed})\n", listing::refusal(refusal))
 }
 
 #[cfg(test)]
@@ -128,6 +125,6 @@ mod tests {
     #[test]
     fn numbers_written_in_spite_of_a_refusal() {
         let line = refused(Refusal::Sheaf, &[7, 6_400, 7, 0, -7]);
-        assert_eq!(line, "(refused 9) (changed 3)\n");
+        assert_eq!(line, "(refused 9)\n(changed 3)\n");
     }
 }

@@ -3,7 +3,7 @@ use libc::STDOUT_FILENO;
 use model::Read;
 ghost use mathlib.Core.Path.{_≡_};
 ghost use mathlib.Core.List.{[], _∷_};
-ghost use Prim.Native.Nat.{min};
+ghost use Prim.Native.Nat.{min, _≤_};
 ghost use lib.IntN.{pos};
 ghost use lib.ListN.{length};
 ghost use Rattle.io.specs.Counts.{Counts};
@@ -75,4 +75,29 @@ pub fn show_refused(got: Read, sheet: &[u8]) -> usize
 {
     let refusal = got.refusal;
     show_refusal(refusal)
+}
+
+// ---- what the programs that ask for points share
+
+// A bound as io prints it. No bound is negative; a negative one would show as a number that no bound reaches.
+pub fn printable(bound: i64) -> u64 {
+    if bound < 0 { u64::MAX } else { bound as u64 }
+}
+
+// Shows some text and a number right behind it.
+pub fn show_number(before: &[u8], n: u64) {
+    io::write_all(STDOUT_FILENO, before);
+    io::print_decimal(STDOUT_FILENO, n);
+}
+
+// One less, and no less than 0.
+pub fn one_less(n: usize) -> usize
+    ensures least { λ r. ⌜ r ≤ n ⌝ }
+{
+    if n == 0 { 0 } else { n - 1 }
+}
+
+// Another number: the next, or 0 after the last.
+pub fn one_up(number: i32) -> i32 {
+    if number < i32::MAX { number + 1 } else { 0 }
 }

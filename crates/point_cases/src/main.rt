@@ -10,16 +10,6 @@ ghost use mathlib.Core.Path.{_≡_};
 ghost use Prim.Native.Nat.{_≤_};
 ghost use Rattle.model.specs.Entries as entries;
 
-// A bound as io prints it. No bound is negative; a negative one would show as a number that no bound reaches.
-fn printable(bound: i64) -> u64 {
-    if bound < 0 { u64::MAX } else { bound as u64 }
-}
-
-fn show_number(before: &[u8], n: u64) {
-    io::write_all(STDOUT_FILENO, before);
-    io::print_decimal(STDOUT_FILENO, n);
-}
-
 // Shows an answer to a question, with the nodes that a lookup of it reads, and nothing else.
 fn show_nearest(near: Nearest, job: Job, x: i32, y: i32, store: &[i32])
     requires answer { ⌜ near ≡ entries.point job x y (now store) ⌝ }
@@ -29,12 +19,12 @@ fn show_nearest(near: Nearest, job: Job, x: i32, y: i32, store: &[i32])
         case_files::show_refusal(refusal);
         return;
     }
-    show_number(b"(point ", printable(near.lo));
-    show_number(b" ", printable(near.hi));
-    show_number(b" ", near.edge as u64);
+    case_files::show_number(b"(point ", case_files::printable(near.lo));
+    case_files::show_number(b" ", case_files::printable(near.hi));
+    case_files::show_number(b" ", near.edge as u64);
     let count = job.count;
     let found = distance::nearest(store, count, x, y);
-    show_number(b") (reads ", found.reads as u64);
+    case_files::show_number(b") (reads ", found.reads as u64);
     io::write_all(STDOUT_FILENO, b")\n");
 }
 
@@ -61,21 +51,11 @@ fn ask_spots(job: Job, store: &[i32], need: usize) {
     ask(job, 0, -1000001, store, need);
 }
 
-fn one_less(n: usize) -> usize
-    ensures least { λ r. ⌜ r ≤ n ⌝ }
-{
-    if n == 0 { 0 } else { n - 1 }
-}
-
-fn one_up(number: i32) -> i32 {
-    if number < i32::MAX { number + 1 } else { 0 }
-}
-
 // The answer where number `at` of the store is one up; the store is left as it was.
 fn ask_changed(job: Job, store: &mut [i32], need: usize, at: usize) {
     if at < store.len() {
         let old = store[at];
-        store[at] = one_up(old);
+        store[at] = case_files::one_up(old);
         ask(job, 3, 4, store, need);
         store[at] = old;
     }
@@ -130,11 +110,11 @@ fn ask_stores(job: Job, store: &mut [i32], nodes: usize)
 {
     let need = WIDTH * nodes;
     ask(job, 3, 4, store, need + 1);
-    ask(job, 3, 4, store, one_less(need));
+    ask(job, 3, 4, store, case_files::one_less(need));
     ask(job, 3, 4, store, 0);
     ask_node(job, store, need, 0);
     ask_node(job, store, need, nodes / 2);
-    ask_node(job, store, need, one_less(nodes));
+    ask_node(job, store, need, case_files::one_less(nodes));
     ask_packed(job, store, nodes);
 }
 

@@ -10,8 +10,8 @@ use lib.Signed.{ltZ, mag}
 use mir.Syntax.{w32}
 use mir.Val.{SFits}
 use mir.Facts.{toZ-ofZ}
-use Rattle.point_cases.proofs.one_up.Statement.{statement}
-use Rattle.point_cases.proofs.one_up.Tie as tie
+use Rattle.case_files.proofs.one_up.Statement.{statement}
+use Rattle.case_files.proofs.one_up.Tie as tie
 
 -- one more than a number below the largest fits
 up-fits : (z : ℤ) → mag z < 2 ^ 31 → ltZ z (pos 2147483647) ≡ true → SFits w32 (z +ℤ pos 1)

@@ -1,8 +1,8 @@
 use mir.Facts.{toZ-ofZ, fits-natAbs}
 use borrow.Author.Needs.{needs}
 use Rattle.integers.specs.Signed.{lt-0-false}
-use Rattle.point_cases.proofs.printable.Statement.{statement}
-use Rattle.point_cases.proofs.printable.Tie as tie
+use Rattle.case_files.proofs.printable.Statement.{statement}
+use Rattle.case_files.proofs.printable.Tie as tie
 
 cast-result : tie.Need-cast-result
 cast-result c =

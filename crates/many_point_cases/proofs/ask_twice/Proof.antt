@@ -1,0 +1,26 @@
+use mathlib.Core.Path.{sym}
+use native.Mathlib.Omega.{arith}
+use lib.Seq.{length-take-le}
+use borrow.Author.Needs.{needs}
+use Rattle.many_point_cases.proofs.ask_twice.Statement.{statement}
+use Rattle.many_point_cases.proofs.ask_twice.Tie as tie
+
+least-requires : tie.Need-least-requires
+least-requires c κs = search needs
+
+slice-aggregate-ask : tie.Need-slice-aggregate-ask
+slice-aggregate-ask c = search needs
+
+slice-aggregate-ask-2 : tie.Need-slice-aggregate-ask-2
+slice-aggregate-ask-2 c = let l = c .before .before .least in sym (length-take-le (l .result) (c .before .before .before .args .store .now) (omega (arith, l .ensures)))
+
+ask-requires : tie.Need-ask-requires
+ask-requires c κs = search needs
+
+returns : tie.Need-returns
+returns c = search needs
+
+pub ask-twice-spec : {M : Type 1} → statement M
+ask-twice-spec =
+    tie.close
+    (tie.spec least-requires slice-aggregate-ask slice-aggregate-ask-2 ask-requires returns)
