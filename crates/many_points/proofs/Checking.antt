@@ -2,12 +2,13 @@
 use mathlib.Core.Path.{_≡_, refl, sym, ap, _∙_}
 use mathlib.Core.Bool.{Bool, true, false, not, _&&_}
 use mathlib.Core.List.{List, _++_}
+use mathlib.Core.Logic.{inr}
 use Prim.Native.Nat.{ℕ, _*_, _/_, _≤_, _<_}
 use native.Mathlib.Omega.{arith}
 use lib.Dec.{leb, eqb}
 use lib.IntN.{ℤ}
 use lib.ListN.{length}
-use borrow.Author.Tests.{le-leb, lt-leb, not-true, not-false}
+use borrow.Author.Tests.{le-leb, lt-leb, eq-eqb}
 use Rattle.integers.specs.Tests.{both, le-of}
 use Rattle.model.specs.declared.Job.{Job}
 use Rattle.model.specs.Refusals.{Checks, check, first, range, sheaf, space, stranger}
@@ -15,6 +16,7 @@ use Rattle.model.specs.Jobs.{coordinates, own, judgeWith}
 use Rattle.model.specs.Store.{forest, storeOf, begins}
 use Rattle.model.specs.Entries.{over, treesChecks, spotsIn, spotsFit, replies, pointsChecks, pointsRefusal, pointsReply}
 use Rattle.ranges.specs.Refusals.{all-pass, passed-all, when-refused, when-passed, accepted-is, refused-is}
+use Rattle.ranges.specs.Cases.{sheaf-row}
 use Rattle.ranges.specs.Legal.{Legal, legal-with}
 
 -- ---- 9
@@ -27,9 +29,16 @@ module _ (spots : List ℤ) where
   unfolding spotsFit
   too-many h = sym (rw (le-leb 1 (spotsIn spots) (omega arith), lt-leb (spotsIn spots) 256 h))
 
-  pub by-twos : 1 ≤ spotsIn spots → spotsIn spots ≤ 256 → eqb (length spots) (2 * spotsIn spots) ≡ spotsFit spots
+  pub one-over : 2 * spotsIn spots < length spots → false ≡ spotsFit spots
+  one-over h = sym (sheaf-row spots .1 (inr (inr (spotsIn spots, omega arith))))
+
+  pub all-fit : 1 ≤ spotsIn spots → spotsIn spots ≤ 256 → length spots ≡ 2 * spotsIn spots → true ≡ spotsFit spots
   unfolding spotsFit
-  by-twos h k = sym (rw (le-leb 1 (spotsIn spots) h, le-leb (spotsIn spots) 256 k))
+  all-fit h k e = sym (rw (le-leb 1 (spotsIn spots) h, le-leb (spotsIn spots) 256 k, eq-eqb (length spots) (2 * spotsIn spots) e))
+
+pub few-points : (spots : List ℤ) → spotsFit spots ≡ true → spotsIn spots ≤ 256
+unfolding spotsFit
+few-points spots e = le-of (spotsIn spots) 256 (both (leb (spotsIn spots) 256) (eqb (length spots) (2 * spotsIn spots)) (both (leb 1 (spotsIn spots)) (leb (spotsIn spots) 256 && eqb (length spots) (2 * spotsIn spots)) e .1) .0)
 
 -- ---- the checks in their order: each step leaves those that come after it
 module _ (j : Job) (spots store reply : List ℤ) where

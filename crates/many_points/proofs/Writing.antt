@@ -1,5 +1,5 @@
 -- The reply as it is written: three numbers at its front, and one point's reply after those of the points before it. Assumes nothing.
-use mathlib.Core.Path.{_≡_, refl, sym, ap, ap₂, _∙_}
+use mathlib.Core.Path.{_≡_, refl, sym, ap, ap₂, _∙_, subst}
 use mathlib.Core.Bool.{true}
 use mathlib.Core.List.{List, [], _∷_, _++_, append-assoc}
 use Prim.Native.Nat.{ℕ, suc, _+_, _-_, _*_, _/_, _≤_, _<_}
@@ -31,13 +31,20 @@ three-set (x ∷ y ∷ z ∷ l) a b c h = refl
 pub three-eq : {a b c d e f : ℤ} (l : List ℤ) → a ≡ d → b ≡ e → c ≡ f → a ∷ b ∷ c ∷ l ≡ d ∷ e ∷ f ∷ l
 three-eq l p q r = cc
 
--- ---- a number of the row, read from its bits
-module _ (zs : List ℤ) (i : ℕ) (e : coordinates zs ≡ true) (h : i < length zs) where
-  pub number-size : natAbs (getD zs i (pos 0)) ≤ 1000000
-  number-size = coordinate-size (getD zs i (pos 0)) (coordinate-true (row-in zs i e h))
+-- ---- the number in place i of the row, looked at in place p, in whatever words
+pub same-place : (zs : List ℤ) {p : ℕ} (i : ℕ) → p ≡ i → getD zs p (pos 0) ≡ getD zs i (pos 0)
+same-place zs i e = ap (λ (n : ℕ). getD zs n (pos 0)) e
 
-  pub number-read : toZ w32 (ofZ w32 (getD zs i (pos 0))) ≡ getD zs i (pos 0)
-  number-read = toZ-ofZ (fits32 number-size tt)
+-- ---- the k-th point's two numbers are in range, and are read back from their bits as they were
+module _ (zs : List ℤ) (i : ℕ) (e : coordinates zs ≡ true) (h : i < length zs) (z : ℤ) (w : z ≡ getD zs i (pos 0)) where
+  size-at : natAbs z ≤ 1000000
+  size-at = subst (λ (n : ℤ). natAbs n ≤ 1000000) (sym w) (coordinate-size (getD zs i (pos 0)) (coordinate-true (row-in zs i e h)))
+
+  pub number-read : toZ w32 (ofZ w32 z) ≡ z
+  number-read = toZ-ofZ (fits32 size-at tt)
+
+  pub number-size : natAbs (toZ w32 (ofZ w32 z)) ≤ 1000000
+  number-size = subst (λ (n : ℤ). natAbs n ≤ 1000000) (sym number-read) size-at
 
 -- ---- the next point's two numbers, and its reply before the later ones
 next-spot : (spots : List ℤ) (k : ℕ) → k < spotsIn spots → drop (2 * k) spots ≡ spotX spots k ∷ spotY spots k ∷ drop (2 * (k + 1)) spots
@@ -56,32 +63,37 @@ module _ (ts : List Tree) (x y : ℤ) where
   unfolding replies
   first-reply rest old = ap (λ (l : List ℤ). three ++ (replies ts rest ++ l)) (sym (drop-drop (length (replies ts rest)) 3 old ∙ ap (λ (n : ℕ). drop n old) (let e : 3 + length (replies ts rest) ≡ suc (suc (suc (length (replies ts rest)))) = omega arith in e)))
 
--- ---- a turn of the loop: l is the reply so far, and ys its part from 3 · k on once the k-th point is answered
-module _ (ts : List Tree) (spots l ys : List ℤ) (k : ℕ) (h : k < spotsIn spots) (r : 3 * spotsIn spots ≤ length l)
-    (e : ys ≡ three ts (spotX spots k) (spotY spots k) ++ drop 3 (midOf (3 * k) (length l - 3 * k) l)) where
+-- ---- a turn of the loop: l is the reply so far, p the place of the k-th reply, and ys what is there from p on once the k-th point is answered
+module _ (ts : List Tree) (spots l ys : List ℤ) (k p : ℕ) (h : k < spotsIn spots) (r : 3 * spotsIn spots ≤ length l) (w : p ≡ 3 * k)
+    (e : ys ≡ three ts (spotX spots k) (spotY spots k) ++ drop 3 (midOf p (length l - p) l)) where
+  abbrev reply : List ℤ
+  reply = three ts (spotX spots k) (spotY spots k)
+
   abbrev front : List ℤ
-  front = take (3 * k) l ++ three ts (spotX spots k) (spotY spots k)
+  front = take (3 * k) l ++ reply
 
   front-long : length front ≡ 3 * (k + 1)
-  front-long = length-append (take (3 * k) l) (three ts (spotX spots k) (spotY spots k)) ∙ omega (arith, length-take-le (3 * k) l (omega arith))
+  front-long = length-append (take (3 * k) l) reply ∙ omega (arith, length-take-le (3 * k) l (omega arith))
 
-  left-is : putMid (3 * k) (length l - 3 * k) l ys ≡ front ++ drop 3 (drop (3 * k) l)
+  left-is : putMid p (length l - p) l ys ≡ front ++ drop 3 (drop (3 * k) l)
   left-is =
-      tail-put (3 * k) l ys (omega arith)
-      ∙ ap (λ (z : List ℤ). take (3 * k) l ++ z) (e ∙ ap (λ (z : List ℤ). three ts (spotX spots k) (spotY spots k) ++ drop 3 z) (tail-mid (3 * k) l))
-      ∙ sym (append-assoc (take (3 * k) l) (three ts (spotX spots k) (spotY spots k)) (drop 3 (drop (3 * k) l)))
+      tail-put p l ys (omega arith)
+      ∙ ap (λ (z : List ℤ). take p l ++ z) (e ∙ ap (λ (z : List ℤ). reply ++ drop 3 z) (tail-mid p l))
+      ∙ ap (λ (n : ℕ). take n l ++ (reply ++ drop 3 (drop n l))) w
+      ∙ sym (append-assoc (take (3 * k) l) reply (drop 3 (drop (3 * k) l)))
 
-  pub left-long : length (putMid (3 * k) (length l - 3 * k) l ys) ≡ length l
+  pub left-long : length (putMid p (length l - p) l ys) ≡ length l
   left-long = ap length left-is ∙ length-append front (drop 3 (drop (3 * k) l)) ∙ omega (arith, front-long, length-drop 3 (drop (3 * k) l), length-drop (3 * k) l)
 
-  pub one-more : (wanted : List ℤ) → wanted ≡ take (3 * k) l ++ over (replies ts (drop (2 * k) spots)) (drop (3 * k) l) → wanted ≡ take (3 * (k + 1)) (putMid (3 * k) (length l - 3 * k) l ys) ++ over (replies ts (drop (2 * (k + 1)) spots)) (drop (3 * (k + 1)) (putMid (3 * k) (length l - 3 * k) l ys))
-  one-more wanted w =
+  pub one-more : (wanted : List ℤ) → wanted ≡ take (3 * k) l ++ over (replies ts (drop (2 * k) spots)) (drop (3 * k) l) → wanted ≡ take (3 * (k + 1)) (putMid p (length l - p) l ys) ++ over (replies ts (drop (2 * (k + 1)) spots)) (drop (3 * (k + 1)) (putMid p (length l - p) l ys))
+  one-more wanted is =
       let rest = drop (2 * (k + 1)) spots in
-      w
+      let end = drop 3 (drop (3 * k) l) in
+      is
       ∙ ap (λ (s : List ℤ). take (3 * k) l ++ over (replies ts s) (drop (3 * k) l)) (next-spot spots k h)
       ∙ ap (λ (z : List ℤ). take (3 * k) l ++ z) (first-reply ts (spotX spots k) (spotY spots k) rest (drop (3 * k) l))
-      ∙ sym (append-assoc (take (3 * k) l) (three ts (spotX spots k) (spotY spots k)) (over (replies ts rest) (drop 3 (drop (3 * k) l))))
-      ∙ sym (ap₂ (λ (a b : List ℤ). a ++ over (replies ts rest) b) (ap (take (3 * (k + 1))) left-is ∙ take-at front (drop 3 (drop (3 * k) l)) (3 * (k + 1)) front-long) (ap (drop (3 * (k + 1))) left-is ∙ drop-at front (drop 3 (drop (3 * k) l)) (3 * (k + 1)) front-long))
+      ∙ sym (append-assoc (take (3 * k) l) reply (over (replies ts rest) end))
+      ∙ sym (ap₂ (λ (a b : List ℤ). a ++ over (replies ts rest) b) (ap (take (3 * (k + 1))) left-is ∙ take-at front end (3 * (k + 1)) front-long) (ap (drop (3 * (k + 1))) left-is ∙ drop-at front end (3 * (k + 1)) front-long))
 
 -- ---- after the last point nothing is left to reply
 none-left : (ts : List Tree) (rest : List ℤ) → length rest ≤ 1 → replies ts rest ≡ []

@@ -6,13 +6,14 @@ use model::SPACE;
 ghost use mathlib.Core.Path.{_≡_};
 ghost use mathlib.Core.Bool.{true};
 ghost use mathlib.Core.List.{List, _∷_};
-ghost use Prim.Native.Nat.{_*_, _≤_};
+ghost use Prim.Native.Nat.{_*_, _≤_, _<_};
 ghost use lib.IntN.{pos, natAbs};
 ghost use lib.ListN.{length, drop};
 ghost use Rattle.model.specs.Jobs as law;
 ghost use Rattle.model.specs.Trees.{Tree};
 ghost use Rattle.model.specs.Distance.{lo, hi, named};
 ghost use Rattle.model.specs.Entries as entries;
+ghost use Rattle.model.specs.Promises.{spotX, spotY};
 ghost use Rattle.subtrees.specs.Fronts.{Holds, TreesOf};
 
 // ---- the checks
@@ -28,7 +29,10 @@ fn spots_fit(spots: &[i32]) -> bool
     if points > 256 {
         return false;
     }
-    spots.len() == 2 * points
+    if spots.len() != 2 * points {
+        return false;
+    }
+    true
 }
 
 // All of them, in their order, so that nothing is left to refuse when the first number is written.
@@ -59,6 +63,28 @@ fn check(job: Job, spots: &[i32], store: &[i32], reply: &[i64]) -> u8
 
 // ---- the replies
 
+// The k-th point's two numbers, and where its reply stands.
+fn x_of(spots: &[i32], k: usize) -> i32
+    requires there { ⌜ k < entries.spotsIn (now spots) ⌝ }
+    ensures number { λ r. ⌜ r ≡ spotX (now (spots .entry)) k ⌝ }
+{
+    spots[2 * k]
+}
+
+fn y_of(spots: &[i32], k: usize) -> i32
+    requires there { ⌜ k < entries.spotsIn (now spots) ⌝ }
+    ensures number { λ r. ⌜ r ≡ spotY (now (spots .entry)) k ⌝ }
+{
+    spots[2 * k + 1]
+}
+
+fn place_of(k: usize) -> usize
+    requires few { ⌜ k < 256 ⌝ }
+    ensures place { λ r. ⌜ r ≡ 3 * k ⌝ }
+{
+    3 * k
+}
+
 // One point's bounds and edge, as the first three numbers of `reply`.
 fn answer(store: &[i32], count: usize, x: i32, y: i32, reply: &mut [i64])
     requires held { ⌜ TreesOf (now store) count × (1 ≤ count) × (count ≤ 64) ⌝ }
@@ -75,7 +101,7 @@ fn answer(store: &[i32], count: usize, x: i32, y: i32, reply: &mut [i64])
     reply[2] = edge;
 }
 
-// Each point's in its turn: the k-th has the numbers from 2 · k on, and its reply those from 3 · k on.
+// Each point's in its turn.
 fn answer_all(store: &[i32], count: usize, spots: &[i32], reply: &mut [i64])
     requires held { ⌜ TreesOf (now store) count × (1 ≤ count) × (count ≤ 64) ⌝ }
     requires points { ⌜ (law.coordinates (now spots) ≡ true) × (entries.spotsFit (now spots) ≡ true) ⌝ }
@@ -85,9 +111,9 @@ fn answer_all(store: &[i32], count: usize, spots: &[i32], reply: &mut [i64])
     let points = spots.len() / 2;
     let mut k: usize = 0;
     while k < points {
-        let x = spots[2 * k];
-        let y = spots[2 * k + 1];
-        let at = 3 * k;
+        let x = x_of(spots, k);
+        let y = y_of(spots, k);
+        let at = place_of(k);
         answer(store, count, x, y, &mut reply[at..]);
         k += 1;
     }

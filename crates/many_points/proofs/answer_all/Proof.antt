@@ -1,15 +1,20 @@
 -- The invariant: the reply wanted is what is written so far and the replies of the points that are left. Assumes nothing.
 use mathlib.Core.Path.{_≡_, refl, sym, ap, _∙_}
 use mathlib.Core.List.{List, _++_}
-use Prim.Native.Nat.{_+_, _*_, _-_, _≤_, _<_}
+use Prim.Native.Nat.{ℕ, _+_, _*_, _-_, _≤_, _<_}
 use native.Mathlib.Omega.{arith}
+use lib.IntN.{ℤ, natAbs}
 use lib.ListN.{length, take, drop, length-drop}
+use mir.Syntax.{w32}
+use mir.Val.{toZ, ofZ}
+use borrow.Author.Needs.{needs}
 use borrow.Rule.Slice.PartMut.{midOf}
 use Rattle.sequences.specs.Parts.{tail-mid}
 use Rattle.model.specs.Trees.{Tree}
 use Rattle.model.specs.Entries.{over, spotsIn, replies}
 use Rattle.model.specs.Promises.{spotX, spotY}
 use Rattle.subtrees.specs.Fronts.{Holds}
+use Rattle.many_points.proofs.Checking.{few-points}
 use Rattle.many_points.proofs.Writing.{number-size, number-read, three, left-long, one-more, all-written}
 use Rattle.many_points.proofs.answer_all.Statement.{statement}
 use Rattle.many_points.proofs.answer_all.Tie as tie
@@ -23,56 +28,67 @@ abbrev μ-loop : tie.MeasureT-loop
 loop-holds : tie.Need-loop-holds Inv-loop μ-loop
 loop-holds c = (omega arith, refl, λ ts h. refl)
 
-mul-x : tie.Need-mul-x Inv-loop μ-loop
-mul-x c = omega arith
+x-of-requires : tie.Need-x-of-requires Inv-loop μ-loop
+x-of-requires c κs = omega arith
 
-mul-x-2 : tie.Need-mul-x-2 Inv-loop μ-loop
-mul-x-2 c = omega arith
+y-of-requires : tie.Need-y-of-requires Inv-loop μ-loop
+y-of-requires c κs = omega arith
 
-shared-slice-copy-out-x : tie.Need-shared-slice-copy-out-x Inv-loop μ-loop
-shared-slice-copy-out-x c = omega arith
+place-of-requires : tie.Need-place-of-requires Inv-loop μ-loop
+place-of-requires c κs = let s = c .before .before .before .before in omega (arith, few-points (s .args .spots .now) (s .pre .1 .0 .1))
 
-mul-y : tie.Need-mul-y Inv-loop μ-loop
-mul-y c = omega arith
-
-add-y : tie.Need-add-y Inv-loop μ-loop
-add-y c = omega arith
-
-mul-y-2 : tie.Need-mul-y-2 Inv-loop μ-loop
-mul-y-2 c = omega arith
-
-shared-slice-copy-out-y : tie.Need-shared-slice-copy-out-y Inv-loop μ-loop
-shared-slice-copy-out-y c = omega arith
-
-mul-at : tie.Need-mul-at Inv-loop μ-loop
-mul-at c = omega arith
+-- the k-th reply lies within the reply
+within : (c : tie.After-place-of Inv-loop μ-loop) → (c .place-of .result + 3 ≤ length (c .before .before .before .before .loop .reply)) × (c .place-of .result < 768)
+within c =
+    let s = c .before .before .before .before .before in
+    let l = c .before .before .before .before .loop in
+    let f = few-points (s .args .spots .now) (s .pre .1 .0 .1) in
+    (omega (arith, c .place-of .ensures, s .pre .1 .1, l .inv .1), omega (arith, c .place-of .ensures, f))
 
 mul-answer : tie.Need-mul-answer Inv-loop μ-loop
-mul-answer c = omega arith
+mul-answer c = let w = within c in omega arith
 
 sub-answer : tie.Need-sub-answer Inv-loop μ-loop
-sub-answer c = omega arith
+sub-answer c = let w = within c in omega arith
 
 part-answer-start : tie.Need-part-answer-start Inv-loop μ-loop
-part-answer-start c = omega arith
+part-answer-start c = let w = within c in omega arith
 
 part-answer-end : tie.Need-part-answer-end Inv-loop μ-loop
 part-answer-end c = omega arith
 
+-- the point's two numbers
+module _ (c : tie.After-y-of Inv-loop μ-loop) where
+  abbrev spots : List ℤ
+  spots = c .before .before .before .before .args .spots .now
+
+  abbrev k : ℕ
+  k = c .before .before .before .loop .k
+
+  x-there : 2 * k < length spots
+  x-there = omega arith
+
+  y-there : 2 * k + 1 < length spots
+  y-there = omega arith
+
+  sizes : (natAbs (toZ w32 (ofZ w32 (c .before .x-of .result))) ≤ 1000000) × (natAbs (toZ w32 (ofZ w32 (c .y-of .result))) ≤ 1000000)
+  sizes =
+      let e = c .before .before .before .before .pre .1 .0 .0 in
+      (number-size spots (2 * k) e x-there (c .before .x-of .result) (c .before .x-of .ensures), number-size spots (2 * k + 1) e y-there (c .y-of .result) (c .y-of .ensures))
+
+  x-read : toZ w32 (ofZ w32 (c .before .x-of .result)) ≡ spotX spots k
+  x-read = number-read spots (2 * k) (c .before .before .before .before .pre .1 .0 .0) x-there (c .before .x-of .result) (c .before .x-of .ensures) ∙ c .before .x-of .ensures
+
+  y-read : toZ w32 (ofZ w32 (c .y-of .result)) ≡ spotY spots k
+  y-read = number-read spots (2 * k + 1) (c .before .before .before .before .pre .1 .0 .0) y-there (c .y-of .result) (c .y-of .ensures) ∙ c .y-of .ensures
+
 answer-requires : tie.Need-answer-requires Inv-loop μ-loop
 answer-requires c κs =
-    let s = c .before .before .before .before .before in
-    let l = c .before .before .before .before .loop in
-    let spots = s .args .spots .now in
-    let e = s .pre .1 .0 .0 in
-    let i : 2 * l .k < length spots = omega arith in
-    let j : 2 * l .k + 1 < length spots = omega arith in (
-      s .pre .0,
-      (
-        (rw (number-read spots (2 * l .k) e i) (number-size spots (2 * l .k) e i), rw (number-read spots (2 * l .k + 1) e j) (number-size spots (2 * l .k + 1) e j)),
-        rw (tail-mid (3 * l .k) (l .reply)) (simp length-drop (omega (arith, s .pre .1 .1, l .inv .1))),
-      ),
-    )
+    let g = c .before in
+    let s = g .before .before .before .before .before in
+    let l = g .before .before .before .before .loop in
+    let m = sizes (g .before) in
+    (s .pre .0, (search (needs, m), rw (tail-mid (g .place-of .result) (l .reply)) (simp length-drop (omega (arith, within g .0)))))
 
 add-k : tie.Need-add-k Inv-loop μ-loop
 add-k c = omega arith
@@ -81,30 +97,26 @@ loop-less : tie.Need-loop-less Inv-loop μ-loop
 loop-less c = omega arith
 
 -- what the call has written, with the point's numbers read from their bits
-reply-is : (c : tie.After-reply Inv-loop μ-loop) (ts : List Tree) → let s = c .before .before .before .before .before .before .before in let l = c .before .before .before .before .before .before .loop in
-    Holds (s .args .store .now) (s .args .count) ts → c .before .answer .last .1 .1 .1 .1 .0 ≡ three ts (spotX (s .args .spots .now) (l .k)) (spotY (s .args .spots .now) (l .k)) ++ drop 3 (midOf (3 * l .k) (length (l .reply) - 3 * l .k) (l .reply))
-reply-is c ts w =
-    let s = c .before .before .before .before .before .before .before in
-    let l = c .before .before .before .before .before .before .loop in
-    let spots = s .args .spots .now in
-    let e = s .pre .1 .0 .0 in
-    let i : 2 * l .k < length spots = omega arith in
-    let j : 2 * l .k + 1 < length spots = omega arith in
-    rw (number-read spots (2 * l .k) e i, number-read spots (2 * l .k + 1) e j) at (c .before .answer .ensures ts w)
+reply-is : (c : tie.After-reply Inv-loop μ-loop) (ts : List Tree) → let g = c .before .before .before in let s = g .before .before .before .before .before in let l = g .before .before .before .before .loop in
+    Holds (s .args .store .now) (s .args .count) ts → c .before .answer .last .1 .1 .1 .1 .0 ≡ three ts (spotX (s .args .spots .now) (l .k)) (spotY (s .args .spots .now) (l .k)) ++ drop 3 (midOf (g .place-of .result) (length (l .reply) - g .place-of .result) (l .reply))
+reply-is c ts w = let y = c .before .before .before .before in rw (x-read y, y-read y) at (c .before .answer .ensures ts w)
 
 loop-again : tie.Need-loop-again Inv-loop μ-loop
 loop-again c =
-    let s = c .before .before .before .before .before .before .before in
-    let l = c .before .before .before .before .before .before .loop in
-    let spots = s .args .spots .now in
+    let g = c .before .before .before in
+    let s = g .before .before .before .before .before in
+    let l = g .before .before .before .before .loop in
+    let row = s .args .spots .now in
     let ys = c .before .answer .last .1 .1 .1 .1 .0 in
-    let h : l .k < spotsIn spots = omega arith in
-    let r : 3 * spotsIn spots ≤ length (l .reply) = omega (arith, s .pre .1 .1, l .inv .1) in
+    let p = g .place-of .result in
+    let h : l .k < spotsIn row = omega arith in
+    let r : 3 * spotsIn row ≤ length (l .reply) = omega (arith, s .pre .1 .1, l .inv .1) in
     let told = reply-is c in
-    let t = s .pre .0 .0 in (
+    let t = s .pre .0 .0 in
+    (
       omega arith,
-      left-long (t .trees) spots (l .reply) ys (l .k) h r (told (t .trees) (t .holds)) ∙ l .inv .1,
-      λ ts w. one-more ts spots (l .reply) ys (l .k) h r (told ts w) (over (replies ts spots) (s .args .reply .now)) (l .inv .2 ts w),
+      left-long (t .trees) row (l .reply) ys (l .k) p h r (g .place-of .ensures) (told (t .trees) (t .holds)) ∙ l .inv .1,
+      λ ts w. one-more ts row (l .reply) ys (l .k) p h r (g .place-of .ensures) (told ts w) (over (replies ts row) (s .args .reply .now)) (l .inv .2 ts w),
     )
 
 same-length : tie.Need-same-length Inv-loop μ-loop
@@ -124,14 +136,9 @@ answer-all-spec =
     Inv-loop
     μ-loop
     loop-holds
-    mul-x
-    mul-x-2
-    shared-slice-copy-out-x
-    mul-y
-    add-y
-    mul-y-2
-    shared-slice-copy-out-y
-    mul-at
+    x-of-requires
+    y-of-requires
+    place-of-requires
     mul-answer
     sub-answer
     part-answer-start

