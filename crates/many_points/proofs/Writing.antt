@@ -31,10 +31,6 @@ three-set (x ∷ y ∷ z ∷ l) a b c h = refl
 pub three-eq : {a b c d e f : ℤ} (l : List ℤ) → a ≡ d → b ≡ e → c ≡ f → a ∷ b ∷ c ∷ l ≡ d ∷ e ∷ f ∷ l
 three-eq l p q r = cc
 
--- ---- the number in place i of the row, looked at in place p, in whatever words
-pub same-place : (zs : List ℤ) {p : ℕ} (i : ℕ) → p ≡ i → getD zs p (pos 0) ≡ getD zs i (pos 0)
-same-place zs i e = ap (λ (n : ℕ). getD zs n (pos 0)) e
-
 -- ---- the k-th point's two numbers are in range, and are read back from their bits as they were
 module _ (zs : List ℤ) (i : ℕ) (e : coordinates zs ≡ true) (h : i < length zs) (z : ℤ) (w : z ≡ getD zs i (pos 0)) where
   size-at : natAbs z ≤ 1000000
@@ -62,6 +58,10 @@ module _ (ts : List Tree) (x y : ℤ) where
   first-reply : (rest old : List ℤ) → over (replies ts (x ∷ y ∷ rest)) old ≡ three ++ over (replies ts rest) (drop 3 old)
   unfolding replies
   first-reply rest old = ap (λ (l : List ℤ). three ++ (replies ts rest ++ l)) (sym (drop-drop (length (replies ts rest)) 3 old ∙ ap (λ (n : ℕ). drop n old) (let e : 3 + length (replies ts rest) ≡ suc (suc (suc (length (replies ts rest)))) = omega arith in e)))
+
+-- the same reply, for numbers that are the point's
+pub three-read : (ts : List Tree) {a b x y : ℤ} (end ys : List ℤ) → ys ≡ three ts a b ++ end → a ≡ x → b ≡ y → ys ≡ three ts x y ++ end
+three-read ts end ys e p q = e ∙ ap₂ (λ (x y : ℤ). three ts x y ++ end) p q
 
 -- ---- a turn of the loop: l is the reply so far, p the place of the k-th reply, and ys what is there from p on once the k-th point is answered
 module _ (ts : List Tree) (spots l ys : List ℤ) (k p : ℕ) (h : k < spotsIn spots) (r : 3 * spotsIn spots ≤ length l) (w : p ≡ 3 * k)

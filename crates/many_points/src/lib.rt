@@ -8,7 +8,7 @@ ghost use mathlib.Core.Bool.{true};
 ghost use mathlib.Core.List.{List, _∷_};
 ghost use Prim.Native.Nat.{_*_, _≤_, _<_};
 ghost use lib.IntN.{pos, natAbs};
-ghost use lib.ListN.{length, drop};
+ghost use lib.ListN.{length, getD, drop};
 ghost use Rattle.model.specs.Jobs as law;
 ghost use Rattle.model.specs.Trees.{Tree};
 ghost use Rattle.model.specs.Distance.{lo, hi, named};
@@ -63,19 +63,26 @@ fn check(job: Job, spots: &[i32], store: &[i32], reply: &[i64]) -> u8
 
 // ---- the replies
 
+fn number_at(spots: &[i32], i: usize) -> i32
+    requires there { ⌜ i < length (now spots) ⌝ }
+    ensures number { λ r. ⌜ r ≡ getD (now (spots .entry)) i (pos 0) ⌝ }
+{
+    spots[i]
+}
+
 // The k-th point's two numbers, and where its reply stands.
 fn x_of(spots: &[i32], k: usize) -> i32
     requires there { ⌜ k < entries.spotsIn (now spots) ⌝ }
     ensures number { λ r. ⌜ r ≡ spotX (now (spots .entry)) k ⌝ }
 {
-    spots[2 * k]
+    number_at(spots, 2 * k)
 }
 
 fn y_of(spots: &[i32], k: usize) -> i32
     requires there { ⌜ k < entries.spotsIn (now spots) ⌝ }
     ensures number { λ r. ⌜ r ≡ spotY (now (spots .entry)) k ⌝ }
 {
-    spots[2 * k + 1]
+    number_at(spots, 2 * k + 1)
 }
 
 fn place_of(k: usize) -> usize

@@ -47,6 +47,10 @@ withSide l i s = set (set (set l (i + centrePlace) (s .centre)) (i + axisPlace) 
 abbrev pub withSpan : List ℤ → ℕ → Span → List ℤ
 withSpan l i v = set (set l (i + leastPlace) (v .least)) (i + greatestPlace) (v .greatest)
 
+-- ---- a number that was read at place k, which is place n in other words
+pub at-place : (l : List ℤ) (n : ℕ) (z : ℤ) (k : ℕ) → z ≡ getD l k (pos 0) → k ≡ n → z ≡ getD l n (pos 0)
+at-place l n z k e i = e ∙ ap (λ (m : ℕ). getD l m (pos 0)) i
+
 -- ---- they are those of the model's row
 module _ (s : Strip) (n : ℕ) (b : Box) (r : List ℤ) where
   pub centre-placed : (getD (numbers s n b r) centrePlace (pos 0) ≡ s .x .centre) × (getD (numbers s n b r) (1 + centrePlace) (pos 0) ≡ s .y .centre)

@@ -15,7 +15,7 @@ use Rattle.model.specs.Entries.{over, spotsIn, replies}
 use Rattle.model.specs.Promises.{spotX, spotY}
 use Rattle.subtrees.specs.Fronts.{Holds}
 use Rattle.many_points.proofs.Checking.{few-points}
-use Rattle.many_points.proofs.Writing.{number-size, number-read, three, left-long, one-more, all-written}
+use Rattle.many_points.proofs.Writing.{number-size, number-read, three, three-read, left-long, one-more, all-written}
 use Rattle.many_points.proofs.answer_all.Statement.{statement}
 use Rattle.many_points.proofs.answer_all.Tie as tie
 
@@ -99,7 +99,7 @@ loop-less c = omega arith
 -- what the call has written, with the point's numbers read from their bits
 reply-is : (c : tie.After-reply Inv-loop μ-loop) (ts : List Tree) → let g = c .before .before .before in let s = g .before .before .before .before .before in let l = g .before .before .before .before .loop in
     Holds (s .args .store .now) (s .args .count) ts → c .before .answer .last .1 .1 .1 .1 .0 ≡ three ts (spotX (s .args .spots .now) (l .k)) (spotY (s .args .spots .now) (l .k)) ++ drop 3 (midOf (g .place-of .result) (length (l .reply) - g .place-of .result) (l .reply))
-reply-is c ts w = let y = c .before .before .before .before in rw (x-read y, y-read y) at (c .before .answer .ensures ts w)
+reply-is c ts w = let y = c .before .before .before .before in three-read ts _ _ (c .before .answer .ensures ts w) (x-read y) (y-read y)
 
 loop-again : tie.Need-loop-again Inv-loop μ-loop
 loop-again c =
@@ -112,8 +112,7 @@ loop-again c =
     let h : l .k < spotsIn row = omega arith in
     let r : 3 * spotsIn row ≤ length (l .reply) = omega (arith, s .pre .1 .1, l .inv .1) in
     let told = reply-is c in
-    let t = s .pre .0 .0 in
-    (
+    let t = s .pre .0 .0 in (
       omega arith,
       left-long (t .trees) row (l .reply) ys (l .k) p h r (g .place-of .ensures) (told (t .trees) (t .holds)) ∙ l .inv .1,
       λ ts w. one-more ts row (l .reply) ys (l .k) p h r (g .place-of .ensures) (told ts w) (over (replies ts row) (s .args .reply .now)) (l .inv .2 ts w),

@@ -1,12 +1,9 @@
 -- Each number is read by itself. Assumes nothing.
-use mathlib.Core.Path.{_≡_, ap, _∙_}
-use mathlib.Core.List.{List}
-use Prim.Native.Nat.{ℕ, _+_}
+use mathlib.Core.Path.{_∙_}
+use Prim.Native.Nat.{_+_}
 use native.Mathlib.Omega.{arith}
-use lib.IntN.{ℤ, pos}
-use lib.ListN.{getD}
 use Rattle.integers.specs.Signed.{read64}
-use Rattle.nodes.specs.Places.{centrePlace, axisPlace, boxPlace, side-eq}
+use Rattle.nodes.specs.Places.{centrePlace, axisPlace, boxPlace, at-place, side-eq}
 use borrow.Author.Needs.{needs}
 use Rattle.nodes.proofs.extent_at.Statement.{statement}
 use Rattle.nodes.proofs.extent_at.Tie as tie
@@ -28,10 +25,6 @@ add-wide-at-3 c = search needs
 
 wide-at-requires-3 : tie.Need-wide-at-requires-3
 wide-at-requires-3 c κs = search needs
-
--- a number that was read at place k, which is place n in other words
-at-place : (l : List ℤ) (n : ℕ) (z : ℤ) (k : ℕ) → z ≡ getD l k (pos 0) → k ≡ n → z ≡ getD l n (pos 0)
-at-place l n z k e i = e ∙ ap (λ (k : ℕ). getD l k (pos 0)) i
 
 returns : tie.Need-returns
 returns c =
