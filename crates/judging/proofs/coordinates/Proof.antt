@@ -1,6 +1,6 @@
 -- `judging::coordinates` meets its contract. The invariant: the numbers up to i are coordinates, so the rest decides. Assumes nothing.
 use mathlib.Core.Path.{_≡_, refl}
-use Prim.Native.Nat.{_-_, _≤_}
+use Prim.Native.Nat.{_-_, _≤_, _<_}
 use native.Mathlib.Omega.{arith}
 use lib.IntN.{pos}
 use lib.ListN.{length, getD, drop}
@@ -31,12 +31,13 @@ coordinate-requires c κs = tt
 
 -- the test of number i is a turn of the loop
 turned : (c : tie.After-coordinate Inv-loop μ-loop) → let row = c .before .before .before .before .args .row .now in let i = c .before .before .before .loop .i in c .coordinate .result ≡ turn anywhere i (length row) (getD row i (pos 0))
-turned c = search (needs, verdicts.place-in)
+turned c = let h : c .before .before .before .loop .i < length (c .before .before .before .before .args .row .now) = omega arith in search (needs, verdicts.place-in)
 
 returns : tie.Need-returns Inv-loop μ-loop
 returns c =
     let row = c .before .before .before .before .before .args .row .now in
     let full : length row ≡ length row = refl in
+    let h : c .before .before .before .before .loop .i < length row = omega arith in
     let q = turned (c .before) in
     search (needs, verdicts.turn-fails)
 
@@ -50,11 +51,16 @@ loop-again : tie.Need-loop-again Inv-loop μ-loop
 loop-again c =
     let row = c .before .before .before .before .before .args .row .now in
     let full : length row ≡ length row = refl in
+    let h : c .before .before .before .before .loop .i < length row = omega arith in
     let q = turned (c .before) in
     (search (needs, verdicts.turn-holds), omega arith)
 
 returns-2 : tie.Need-returns-2 Inv-loop μ-loop
-returns-2 c = let full : length (c .before .before .args .row .now) ≡ length (c .before .before .args .row .now) = refl in search (needs, verdicts.all-hold)
+returns-2 c =
+    let row = c .before .before .args .row .now in
+    let full : length row ≡ length row = refl in
+    let z : length row ≤ c .before .loop .i = omega arith in
+    search (needs, verdicts.all-hold)
 
 pub coordinates-spec : {M : Type 1} → statement M
 coordinates-spec =

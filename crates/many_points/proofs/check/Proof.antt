@@ -25,14 +25,17 @@ use Rattle.many_points.proofs.check.Tie as tie
 asked-is : (c : tie.After-judge-with) → let s = c .before .before in c .judge-with .result ≡ judgeWith (s .args .job) (coordinates (s .args .spots .now))
 asked-is c = let s = c .before .before in c .judge-with .ensures ∙ ap (judgeWith (s .args .job)) (c .before .coordinates .ensures)
 
+passed : (c : tie.Else1) → c .before .judge-with .result ≡ 0
+passed c = omega arith
+
 good : (c : tie.Else1) → Legal (c .before .before .before .args .job)
-good c = let s = c .before .before .before in legal-with (s .args .job) (coordinates (s .args .spots .now)) (sym (asked-is (c .before)) ∙ c .if1 .left) .0
+good c = let s = c .before .before .before in legal-with (s .args .job) (coordinates (s .args .spots .now)) (sym (asked-is (c .before)) ∙ passed c) .0
 
 grain-is : (c : tie.Else1) → let s = c .before .before .before in toZ w32 (ofZ w32 (s .args .job .grain)) ≡ s .args .job .grain
 grain-is c = toZ-ofZ (fits32 (grain-sized (good c) .grain-size) tt)
 
 to-numbers : (c : tie.Else1) → let a = c .before .before .before .args in pointsRefusal (a .job) (a .spots .now) (a .store .now) (a .reply .now) ≡ first (after-numbers (a .job) (a .spots .now) (a .store .now) (a .reply .now))
-to-numbers c = let a = c .before .before .before .args in numbers-passed (a .job) (a .spots .now) (a .store .now) (a .reply .now) (c .before .judge-with .result) (asked-is (c .before)) (c .if1 .left)
+to-numbers c = let a = c .before .before .before .args in numbers-passed (a .job) (a .spots .now) (a .store .now) (a .reply .now) (c .before .judge-with .result) (asked-is (c .before)) (passed c)
 
 -- ---- how many points
 to-count : (c : tie.Else2) → let a = c .before .before .before .before .before .args in pointsRefusal (a .job) (a .spots .now) (a .store .now) (a .reply .now) ≡ first (after-count (a .job) (a .spots .now) (a .store .now) (a .reply .now))
@@ -47,12 +50,15 @@ told c =
     let a = g .before .before .before .args in
     told-of (a .job) _ (grain-is g) (length (a .store .now)) (c .check-trees .result) (c .check-trees .ensures)
 
+sound : (c : tie.Else3) → c .before .before .check-trees .result .refusal ≡ 0
+sound c = omega arith
+
 to-trees : (c : tie.Else3) → let a = c .before .before .before .before .before .before .before .before .before .before .before .before .before .args in pointsRefusal (a .job) (a .spots .now) (a .store .now) (a .reply .now) ≡ first (after-trees (a .job) (a .spots .now) (a .store .now) (a .reply .now))
 to-trees c =
     let t = c .before .before in
     let h = t .before .before .before .before .before .before in
     let a = h .before .before .before .before .before .args in
-    trees-passed (a .job) (a .spots .now) (a .store .now) (a .reply .now) (to-count h) (t .check-trees .result .refusal) (told t .refusal-is) (c .if3 .left)
+    trees-passed (a .job) (a .spots .now) (a .store .now) (a .reply .now) (to-count h) (t .check-trees .result .refusal) (told t .refusal-is) (sound c)
 
 -- ---- the needs
 coordinates-requires : tie.Need-coordinates-requires
@@ -62,7 +68,7 @@ judge-with-requires : tie.Need-judge-with-requires
 judge-with-requires c κs = search needs
 
 returns : tie.Need-returns
-returns c = let a = c .before .before .before .args in numbers-refused (a .job) (a .spots .now) (a .store .now) (a .reply .now) (c .before .judge-with .result) (asked-is (c .before)) (c .if1 .taken)
+returns c = let a = c .before .before .before .args in numbers-refused (a .job) (a .spots .now) (a .store .now) (a .reply .now) (c .before .judge-with .result) (asked-is (c .before)) (λ z. absurd (omega arith))
 
 spots-fit-requires : tie.Need-spots-fit-requires
 spots-fit-requires c κs = search needs
@@ -82,7 +88,7 @@ returns-3 c =
     let t = c .before .before in
     let h = t .before .before .before .before .before .before in
     let a = h .before .before .before .before .before .args in
-    trees-refused (a .job) (a .spots .now) (a .store .now) (a .reply .now) (to-count h) (t .check-trees .result .refusal) (told t .refusal-is) (c .if3 .taken)
+    trees-refused (a .job) (a .spots .now) (a .store .now) (a .reply .now) (to-count h) (t .check-trees .result .refusal) (told t .refusal-is) (λ z. absurd (omega arith))
 
 mul-if4 : tie.Need-mul-if4
 mul-if4 c = search needs
@@ -99,7 +105,7 @@ check-store-requires c κs =
     let t = c .before .before .before .before .before in
     let g = t .before .before .before .before .before .before .before .before in
     let a = g .before .before .before .args in
-    whole-ready (a .job) _ (grain-is g) (good g) (length (a .store .now)) (sym (told t .refusal-is) ∙ c .before .before .before .if3 .left)
+    whole-ready (a .job) _ (grain-is g) (good g) (length (a .store .now)) (sym (told t .refusal-is) ∙ sound (c .before .before .before))
 
 returns-5 : tie.Need-returns-5
 unfolding forest outline
