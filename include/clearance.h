@@ -225,8 +225,10 @@ uint8_t clearance_point(const int32_t *job, size_t job_len,
 
 /*
  * Bounds the distances of several points from the outline. Each point's three
- * numbers are those that clearance_point gives for it alone, but the store is
- * compared with the trees once for all of them.
+ * numbers are those that clearance_point gives for it alone (theorem
+ * points-alone), and their order only orders the answers (points-order). The
+ * store is compared with the trees once for all of them; that is how the code is
+ * written, and no theorem.
  *
  * job, job_len      any numbers
  * spots, spots_len  x, y, x, y, ... of 1 to CLEARANCE_SPOTS_MOST points; a number
@@ -236,10 +238,13 @@ uint8_t clearance_point(const int32_t *job, size_t job_len,
  * store, store_len  begins with the trees of this job, as a map call left them;
  *                   what follows the trees does not matter
  * reply, reply_len  lo, hi and edge of each point are written to the start, in the
- *                   order of the spots: CLEARANCE_NEAREST_NUMBERS numbers a point
+ *                   order of the spots: CLEARANCE_NEAREST_NUMBERS numbers a point.
+ *                   CLEARANCE_SPOTS_MOST times as many are enough for every row
+ *                   (theorem reply-room)
  *
  * Returns 0, or of CLEARANCE_EDGES, _RANGE, _CELL, _SHEAF, _LONG, _STORE, _SPACE
- * and _STRANGER the first in this order that applies: 2, 3, 4, 9, 5, 6, 7, 8.
+ * and _STRANGER the first in this order that applies: 2, 3, 4, 9, 5, 6, 7, 8
+ * (theorem points-earliest).
  */
 uint8_t clearance_points(const int32_t *job, size_t job_len,
                          const int32_t *spots, size_t spots_len,

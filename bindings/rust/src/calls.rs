@@ -125,10 +125,12 @@ pub fn point(job: &Job, x: i32, y: i32, store: &[i32]) -> Result<Nearest, Refusa
 }
 
 /// Bounds the distances of 1 to [`SPOTS_MOST`] points from the outline, x and y of
-/// each. They are those of [`point`], in the order of the spots, but the store is
-/// compared once for all of them. Of 2, 3, 4, 9, 5, 6 and 8, in this order, it
+/// each. They are those of [`point`], in the order of the spots (theorem
+/// `points-alone` of the C function), but the code compares the store once for all
+/// of them. Of 2, 3, 4, 9, 5, 6 and 8, in this order, it
 /// refuses with the first that applies: a coordinate out of range comes before too
-/// many spots. It has room of its own for the answers, so 7 is not among them.
+/// many spots. It has room of its own for the answers, enough for every row (theorem
+/// `reply-room`), so 7 is not among them.
 ///
 /// ```
 /// use clearance::{map, point, points, read, Refusal};
