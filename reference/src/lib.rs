@@ -27,7 +27,9 @@ pub mod trees;
 
 pub use edge::{Edge, CUBIC_MARK, LINE_MARK, NUMBERS_AN_EDGE, NUMBERS_A_LINE};
 pub use entries::{map, point, point_with_reads, points, read, reply_length, write, SPOT_LIMIT};
-pub use job::{judge, Job, COORDINATE_LIMIT, EDGE_LIMIT, GRAIN_LIMIT, REACH_LIMIT};
+pub use job::{
+    judge, judge_with_spots, Job, COORDINATE_LIMIT, EDGE_LIMIT, GRAIN_LIMIT, REACH_LIMIT,
+};
 pub use point::{lookup, Lookup, Nearest};
 pub use refusal::Refusal;
 pub use sheet::{DEFAULT_GRAIN, SHEET_LIMIT};

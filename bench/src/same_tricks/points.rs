@@ -3,16 +3,14 @@
 use super::check::{count_nodes, holds_trees};
 use super::search::tree_length;
 use clearance_reference::trees::NUMBERS_A_NODE;
-use clearance_reference::{judge_with_spot, Job, Refusal, COORDINATE_LIMIT, SPOT_LIMIT};
+use clearance_reference::{judge_with_spots, Job, Refusal, SPOT_LIMIT};
 
 /// Stands for the bounds before the first leaf.
 const NONE: i64 = 1 << 62;
 
 /// The entry `points`: lo, hi and edge of each spot, to the start of the reply.
 pub fn points(job: &Job, spots: &[i32], store: &[i32], reply: &mut [i64]) -> Result<(), Refusal> {
-    let range = -COORDINATE_LIMIT..=COORDINATE_LIMIT;
-    let stray = spots.iter().find(|number| !range.contains(number));
-    judge_with_spot(job, stray.copied().unwrap_or(0), 0)?;
+    judge_with_spots(job, spots)?;
     let (pairs, odd) = spots.as_chunks();
     if !odd.is_empty() || !(1..=SPOT_LIMIT).contains(&pairs.len()) {
         return Err(Refusal::Sheaf);
@@ -51,14 +49,15 @@ fn look_through(part: &[i32], edge: i64, [x, y]: [i32; 2], best: &mut [i64; 3]) 
     let mut at = 0;
     while let Some(&[.., nodes, x0, y0, x1, y1]) = part[at..].first_chunk::<NUMBERS_A_NODE>() {
         let [lo, hi, named] = best;
-        let near = squares(near(x0, x1, x), near(y0, y1, y));
+        let (x_near, x_far) = range(x0, x1, x);
+        let (y_near, y_far) = range(y0, y1, y);
+        let [near, far] = [squares(x_near, y_near), squares(x_far, y_far)];
         if *hi <= near {
             at += NUMBERS_A_NODE * nodes as usize;
             continue;
         }
         at += NUMBERS_A_NODE;
         if nodes == 1 {
-            let far = squares(far(x0, x1, x), far(y0, y1, y));
             *lo = near.min(*lo);
             if far < *hi {
                 (*hi, *named) = (far, edge);
@@ -67,15 +66,13 @@ fn look_through(part: &[i32], edge: i64, [x, y]: [i32; 2], best: &mut [i64; 3]) 
     }
 }
 
-/// How near the box is in one coordinate. A point in range is so near to every
-/// box of a legal job that 32 bits suffice, here and below.
-fn near(least: i32, greatest: i32, at: i32) -> i32 {
-    (least - at).max(at - greatest).max(0)
-}
-
-/// How far its farther side is.
-fn far(least: i32, greatest: i32, at: i32) -> i32 {
-    (at - least).max(greatest - at)
+/// How near the box is in one coordinate, and how far its farther side. A point in
+/// range is so near to every box of a legal job that 32 bits suffice. Both are
+/// found for every node, as the proved library does, though only a leaf's farther
+/// side is used.
+fn range(least: i32, greatest: i32, at: i32) -> (i32, i32) {
+    let near = (least - at).max(at - greatest).max(0);
+    (near, (at - least).max(greatest - at))
 }
 
 fn squares(x: i32, y: i32) -> i64 {
