@@ -68,8 +68,8 @@ enum {
     /* "stranger": `store` does not begin with the trees of this job. From point
      * and points. */
     CLEARANCE_STRANGER = 8,
-    /* "sheaf": there are no spots, more than 256, or an odd count of their
-     * numbers. From points. */
+    /* "sheaf": the row of spots is empty, or longer than CLEARANCE_SPOTS_MOST
+     * points, or its last point lacks its y. From points. */
     CLEARANCE_SHEAF = 9
 };
 
@@ -158,7 +158,7 @@ enum {
     /* Some point of the outline is within this; squared fine units. */
     CLEARANCE_HI = 1,
     /* The first edge, in the order of the job and from 0, with a leaf that gives
-     * the bound hi (theorem point-told). */
+     * the bound hi (theorems point-told and points-told). */
     CLEARANCE_EDGE = 2,
     /* How many numbers there are. */
     CLEARANCE_NEAREST_NUMBERS = 3

@@ -128,7 +128,7 @@ def written_edge(edge):
 LIBRARY = {
     7: ("The call lent too little for the map or the sheet, or for the answers of several points.", (0,)),
     8: ("The store that came with the point or points holds other trees than this job's.", (0,)),
-    9: (f"The call for several points has none, more than {SPOT_LIMIT}, or an odd count of numbers.", (0, 5, 6)),
+    9: (f"The row of points is empty, longer than {SPOT_LIMIT} points, or its last point lacks its y.", (0, 5, 6)),
 }
 
 

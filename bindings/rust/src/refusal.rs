@@ -36,8 +36,8 @@ pub enum Refusal {
     Space = 7,
     /// The store does not begin with the trees of the job.
     Stranger = 8,
-    /// There are no spots, or more than 256; for the C function, also an odd count
-    /// of their numbers.
+    /// The row of spots is empty, or longer than 256 of them; for the C function,
+    /// also where its last point lacks its y.
     Sheaf = 9,
 }
 

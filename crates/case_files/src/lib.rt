@@ -4,7 +4,9 @@ use model::Read;
 ghost use mathlib.Core.Path.{_≡_};
 ghost use mathlib.Core.List.{[], _∷_};
 ghost use Prim.Native.Nat.{min, _≤_};
+ghost use lib.Dec.{T};
 ghost use lib.IntN.{pos};
+ghost use lib.Signed.{nonNeg};
 ghost use lib.ListN.{length};
 ghost use Rattle.io.specs.Counts.{Counts};
 ghost use Rattle.model.specs.Forms.{writeForm};
@@ -80,7 +82,9 @@ pub fn show_refused(got: Read, sheet: &[u8]) -> usize
 // ---- what the programs that ask for points share
 
 // A bound as io prints it. No bound is negative; a negative one would show as a number that no bound reaches.
-pub fn printable(bound: i64) -> u64 {
+pub fn printable(bound: i64) -> u64
+    ensures same { λ r. ⌜ (T (nonNeg bound) → pos r ≡ bound) ⌝ }
+{
     if bound < 0 { u64::MAX } else { bound as u64 }
 }
 
@@ -97,7 +101,9 @@ pub fn one_less(n: usize) -> usize
     if n == 0 { 0 } else { n - 1 }
 }
 
-// Another number: the next, or 0 after the last.
-pub fn one_up(number: i32) -> i32 {
+// Another number: the next, or 0 after the greatest.
+pub fn one_up(number: i32) -> i32
+    ensures other { λ r. ⌜ (r ≡ number → ⊥) ⌝ }
+{
     if number < i32::MAX { number + 1 } else { 0 }
 }

@@ -18,7 +18,7 @@ use Rattle.model.specs.Numbers.{Small}
 use Rattle.model.specs.Forms.{marks}
 use Rattle.model.specs.Sheets.{jobForm, plateForm, edgeForm, lineForm}
 use Rattle.model.specs.Strips.{curved, straight, sideAt, strip}
-use Rattle.model.specs.Cases.{Outside, PlaceCase, MarkCase, RangeCase, RowCase, Reached, LongCase, SheafCase, Earliest, Lowest}
+use Rattle.model.specs.Cases.{Outside, PlaceCase, MarkCase, RangeCase, RowCase, Reached, LongCase, SpaceCase, SheafCase, Earliest, Lowest}
 use Rattle.model.specs.Promises.{Whole, spotX, spotY, loAt, hiAt, namedAt}
 use Rattle.model.specs.FigureTables.{AllHold, _and_, mixedJob}
 use Rattle.model.specs.PointFigures.{Is}
@@ -42,8 +42,14 @@ pub zeros-whole : Whole zeroJob
 zeros-whole = (refl, refl)
 
 -- ---- where a point of a row stands, and its reply
-pub second-spot : (row : List ℤ) → row ≡ pos 10 ∷ pos 11 ∷ pos 12 ∷ pos 13 ∷ pos 14 ∷ pos 15 ∷ [] → (spotX row 1 ≡ pos 12) × (spotY row 1 ≡ pos 13) × (loAt row 1 ≡ pos 13) × (hiAt row 1 ≡ pos 14) × (namedAt row 1 ≡ pos 15)
-second-spot row e = rw e (refl, refl, refl, refl, refl)
+abbrev pub six : List ℤ
+six = pos 10 ∷ pos 11 ∷ pos 12 ∷ pos 13 ∷ pos 14 ∷ pos 15 ∷ []
+
+pub first-spot : (spotX six 0 ≡ pos 10) × (spotY six 0 ≡ pos 11) × (loAt six 0 ≡ pos 10) × (hiAt six 0 ≡ pos 11) × (namedAt six 0 ≡ pos 12)
+first-spot = (refl, refl, refl, refl, refl)
+
+pub second-spot : (spotX six 1 ≡ pos 12) × (spotY six 1 ≡ pos 13) × (loAt six 1 ≡ pos 13) × (hiAt six 1 ≡ pos 14) × (namedAt six 1 ≡ pos 15)
+second-spot = (refl, refl, refl, refl, refl)
 
 -- ---- marks, ranges and long edges
 pub data Figure : Type 0 where
@@ -56,6 +62,8 @@ pub data Figure : Type 0 where
   -- whether a row of points has a number that is refused, and whether it has too few numbers, too many or an odd count
   row-case : List ℤ → Bool → Figure
   sheaf-case : List ℤ → Bool → Figure
+  -- whether so many numbers are more than these
+  space-case : ℕ → List ℤ → Bool → Figure
 
 abbrev pub Holds : Figure → Type 0
 Holds (mark-case n ms vs i t) = Is t (MarkCase n ms vs i)
@@ -63,6 +71,7 @@ Holds (range-case j t) = Is t (RangeCase j)
 Holds (long-case j t) = Is t (LongCase j)
 Holds (row-case zs t) = Is t (RowCase zs)
 Holds (sheaf-case zs t) = Is t (SheafCase zs)
+Holds (space-case n zs t) = Is t (SpaceCase n zs)
 
 -- a cubic's numbers, a line's with its four zeros, and the first of a third edge
 abbrev pub seventeen : List ℤ
@@ -99,6 +108,8 @@ caseFigures =
     ∷ row-case (pos 1000001 ∷ pos 0 ∷ pos 0 ∷ []) true
     ∷ row-case (pos 0 ∷ pos 0 ∷ negsuc 1000000 ∷ []) true
     ∷ row-case (pos 1000000 ∷ negsuc 999999 ∷ []) false
+    -- past the 512th
+    ∷ row-case (replicate 513 (pos 0) ++ (pos 1000001 ∷ [])) true
     -- none, one, two, 512, 513 and 514 of them
     ∷ sheaf-case [] true
     ∷ sheaf-case (replicate 1 (pos 0)) true
@@ -106,6 +117,9 @@ caseFigures =
     ∷ sheaf-case (replicate 512 (pos 0)) false
     ∷ sheaf-case (replicate 513 (pos 0)) true
     ∷ sheaf-case (replicate 514 (pos 0)) true
+    -- two of three, and three of three
+    ∷ space-case 3 (replicate 2 (pos 0)) true
+    ∷ space-case 3 (replicate 3 (pos 0)) false
     ∷ []
 
 -- two numbers that some test tells from one another
@@ -187,12 +201,15 @@ cases-hold =
     and (0, omega arith, inr (record { lt = tt }))
     and (2, omega arith, inl (record { lt = tt }))
     and ends-right
+    and (513, lit< tt, inr (record { lt = tt }))
     and inl refl
     and inr (inr (0, refl))
     and count-right 0 (replicate 2 (pos 0)) refl (omega arith)
     and count-right 255 (replicate 512 (pos 0)) refl (omega arith)
     and inr (inr (256, refl))
     and inr (inl (lit< tt))
+    and omega arith
+    and (λ h. absurd (omega arith))
     and tt
 
 -- ---- of cases 3 and 5 the lowest is 3, and no other number; of none it is 0

@@ -89,7 +89,7 @@ SpaceCase n lent = length lent < n
 abbrev pub StrangerCase : Job → List ℤ → Type 0
 StrangerCase j lent = (rest : List ℤ) → lent ≡ storeOf j ++ rest → ⊥
 
--- 9: no number, more than those of 256 points, or an odd count of them
+-- 9: no number, or more than 256 points have, or one over
 abbrev pub SheafCase : List ℤ → Type 0
 SheafCase spots = (length spots ≡ 0) ⊎ ((512 < length spots) ⊎ ((k : ℕ) × (length spots ≡ 2 * k + 1)))
 

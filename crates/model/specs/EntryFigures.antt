@@ -55,6 +55,8 @@ pub data Figure : Type 0 where
   points-of : Job → List ℤ → List ℤ → List ℤ → ℕ → List ℤ → Figure
   -- the refusal, with so many numbers of reply lent
   points-refused : Job → List ℤ → List ℤ → ℕ → ℕ → Figure
+  -- the replies to a row over a job's trees
+  replies-of : Job → List ℤ → List ℤ → Figure
   -- how many numbers and how many bytes the program lends
   lends : ℕ → ℕ → Figure
   -- the program's input and what it prints, or how that begins
@@ -73,6 +75,7 @@ Holds (point-refused j x y ns k) = pointRefusal j x y ns ≡ k
 Holds (point-of j x y ns a) = point j x y ns ≡ a
 Holds (points-of j ps ns old k new) = (pointsRefusal j ps ns old ≡ k) × (pointsReply j ps ns old ≡ new)
 Holds (points-refused j ps ns n k) = pointsRefusal j ps ns (replicate n (pos 0)) ≡ k
+Holds (replies-of j ps rs) = replies (forest j) ps ≡ rs
 Holds (lends s c) = (storeLent ≡ s) × (cellsLent ≡ c)
 Holds (prints s t) = printed (bytes s) ≡ bytes t
 Holds (prints-first s t) = take (length (bytes t)) (printed (bytes s)) ≡ bytes t
@@ -133,6 +136,7 @@ checkFigures =
     ∷ rise turn 1 (check form true ++ (check edges true ++ (check range true ++ (check cell true ++ (check sheaf true ++ (check refusals.long true ++ (check store true ++ (check space true ++ check stranger true)))))))) true
     ∷ rise turn 1 (check sheaf true ++ check cell true) false
     ∷ rise turn 1 (check refusals.long true ++ check sheaf true) false
+    ∷ rise turn 9 (check space true) false
     ∷ judged-with sound true 0
     ∷ judged-with sound false 3
     ∷ judged-with (small (pos 0) 0 (pos 0)) false 2
@@ -242,6 +246,8 @@ manyFigures =
     (pos 9472 ∷ pos 9472 ∷ pos 1 ∷ pos 15616 ∷ pos 15616 ∷ pos 1 ∷ pos 1280 ∷ pos 1280 ∷ pos 0 ∷ pos 6 ∷ pos 6 ∷ [])
     -- the bounds apart, the same point twice, and not one number over
     ∷ points-of ruled (pos 9 ∷ pos 11 ∷ pos 9 ∷ pos 11 ∷ []) ruledStore (replicate 6 (pos 6)) 0 (pos 3328 ∷ pos 4352 ∷ pos 0 ∷ pos 3328 ∷ pos 4352 ∷ pos 0 ∷ [])
+    -- a number over has none
+    ∷ replies-of pair (pos 9 ∷ pos 1 ∷ pos 4 ∷ []) (pos 9472 ∷ pos 9472 ∷ pos 1 ∷ [])
     -- refused, the reply is as it was
     ∷ points-of pair (pos 9 ∷ pos 1 ∷ off ∷ pos 0 ∷ []) pairStore (replicate 6 (pos 6)) 3 (replicate 6 (pos 6))
     ∷ points-of (paired (pos 2) (pos 9)) (pos 9 ∷ pos 1 ∷ []) pairStore (replicate 3 (pos 6)) 4 (replicate 3 (pos 6))
@@ -272,7 +278,7 @@ printFigures =
 pub checking-holds : AllHold Holds checkFigures
 unfolding judgeWith readSheet ended layout tailLayout jobForm plateForm cellForm reachForm grainForm edgeForm lineForm endForm readAll readLines readLine readForm byte number natural moreDigits digit joined fit marksOf placesOf counted ranged celled between coordinate isZero placed isOne spare kind marked
 checking-holds =
-    refl and refl and refl and refl and refl and refl and refl and refl and refl and refl and refl and refl and refl and refl and refl and refl and refl and refl and refl and tt
+    refl and refl and refl and refl and refl and refl and refl and refl and refl and refl and refl and refl and refl and refl and refl and refl and refl and refl and refl and refl and tt
 
 pub writing-holds : AllHold Holds writeFigures
 unfolding write writeLeaves writeRefusal accepted counted ranged celled between coordinate isZero placed isOne spare kind marked layout tailLayout jobForm plateForm cellForm reachForm grainForm edgeForm lineForm endForm sheetOf writeAll writeLines writeLine writeForm text decimal stated same edgeLines
@@ -299,7 +305,7 @@ unfolding pointsRefusal pointsReply spotsFit replies accepted counted ranged cel
 asking-many-holds =
     refl and refl and refl and refl and refl and refl and refl and refl and refl and refl and refl and refl and refl
     and refl and refl and refl and refl and refl and refl and refl and refl and refl
-    and (refl, refl) and (refl, refl) and (refl, refl) and (refl, refl) and (refl, refl) and (refl, refl) and (refl, refl) and (refl, refl)
+    and (refl, refl) and (refl, refl) and refl and (refl, refl) and (refl, refl) and (refl, refl) and (refl, refl) and (refl, refl) and (refl, refl)
     and tt
 
 pub printing-holds : AllHold Holds printFigures

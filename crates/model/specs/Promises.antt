@@ -223,6 +223,10 @@ pub record Alone (j : Job) (spots store reply : List ℤ) (k : ℕ) : Type 0 whe
 abbrev pub PointsAlone : Type 0
 PointsAlone = (j : Job) (spots store reply : List ℤ) → pointsRefusal j spots store reply ≡ 0 → (k : ℕ) → k < spotsIn spots → Alone j spots store (pointsReply j spots store reply) k
 
+-- and points that are each accepted alone are accepted together, where their count and the length of the reply allow it
+abbrev pub PointsTogether : Type 0
+PointsTogether = (j : Job) (spots store reply : List ℤ) → ((k : ℕ) → k < spotsIn spots → point j (spotX spots k) (spotY spots k) store .refusal ≡ 0) → spotsFit spots ≡ true → 3 * spotsIn spots ≤ length reply → pointsRefusal j spots store reply ≡ 0
+
 -- the k-th reply in one row is the m-th in another
 pub record SameReply (one : List ℤ) (k : ℕ) (other : List ℤ) (m : ℕ) : Type 0 where
   pub lo-same : loAt one k ≡ loAt other m
@@ -236,6 +240,13 @@ PointsOrder =
     (j : Job) (one other store reply left : List ℤ) → pointsRefusal j one store reply ≡ 0 → pointsRefusal j other store left ≡ 0
     → (k m : ℕ) → k < spotsIn one → m < spotsIn other → spotX one k ≡ spotX other m → spotY one k ≡ spotY other m
     → SameReply (pointsReply j one store reply) k (pointsReply j other store left) m
+
+-- nor does it change the refusal: as many points, each of them one of an accepted row, are accepted
+abbrev pub Among : List ℤ → List ℤ → Type 0
+Among other one = (m : ℕ) → m < spotsIn other → (k : ℕ) × (k < spotsIn one) × (spotX other m ≡ spotX one k) × (spotY other m ≡ spotY one k)
+
+abbrev pub PointsTurned : Type 0
+PointsTurned = (j : Job) (one other store reply left : List ℤ) → pointsRefusal j one store reply ≡ 0 → length other ≡ length one → Among other one → length left ≡ length reply → pointsRefusal j other store left ≡ 0
 
 -- past three numbers a point the reply keeps what it had
 abbrev pub PointsPast : Type 0
