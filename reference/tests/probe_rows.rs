@@ -10,7 +10,7 @@ use common::random::Xorshift;
 use common::{edge, job_with, line, long_edge, sample_job};
 
 /// The answer to each question: lines of points with the number past them, or
-/// one refusal.
+/// a refusal with the count of numbers changed.
 fn answers(job: &Job) -> Vec<String> {
     let text = battery(job);
     assert!(text.ends_with('\n'));
@@ -18,7 +18,7 @@ fn answers(job: &Job) -> Vec<String> {
     for line in text.lines() {
         let answer = answers.last_mut().unwrap();
         *answer += &format!("{line}\n");
-        if !line.starts_with("(point ") {
+        if !line.starts_with("(point ") && !line.starts_with("(refused ") {
             answers.push(String::new());
         }
     }
@@ -28,7 +28,7 @@ fn answers(job: &Job) -> Vec<String> {
 }
 
 fn refused(number: u8) -> String {
-    format!("(refused {number}) (changed 0)\n")
+    format!("(refused {number})\n(changed 0)\n")
 }
 
 /// The answers of a job that is not refused, from the line of each spot in range.
