@@ -44,8 +44,8 @@ pub fn point(job: Job, x: i32, y: i32, store: &[i32]) -> Nearest
     pointing::point(job, x, y, store)
 }
 
-// The same for up to 256 points in one call, x and y of each in turn, with the store compared once: at the front of `reply` the two bounds and the
-// edge of each point in turn, as `point` gives them for it alone (`PointsAlone`); or the refusal 2, 3, 4, 9, 5, 6, 7 or 8, the first in this order,
+// The same for up to 256 points in one call, x and y of each in turn: at the front of `reply` the two bounds and the edge of each point in turn, as
+// `point` gives them for it alone (`PointsAlone`); or the refusal 2, 3, 4, 9, 5, 6, 7 or 8, the first in this order that applies (`PointsEarliest`),
 // with `reply` as it was.
 pub fn points(job: Job, spots: &[i32], store: &[i32], reply: &mut [i64]) -> u8
     ensures answer { λ r. ⌜ r ≡ entries.pointsRefusal job (now (spots .entry)) (now (store .entry)) (now (reply .entry)) ⌝ }

@@ -1,5 +1,5 @@
-// The entry `points`: up to 256 points in one call, or the refusal. The store is compared with the job's trees once, whatever the count. RULES,
-// "Distance" and "Refusals".
+// The entry `points`: the bounds and edges of up to 256 points, or the refusal. The store is compared in `check`, before the loop over the points.
+// RULES, "Distance", "Entries" and "Refusals".
 use model::Job;
 use model::SHEAF;
 use model::SPACE;

@@ -6,7 +6,6 @@ use lib.IntN.{ℤ, pos, negsuc}
 use lib.Signed.{nonNeg, ltZ, pos-natAbs}
 use borrow.Author.Tests.{ltb-true}
 use mir.Facts.{toZ-ofZ, fits-natAbs}
-use borrow.Author.Needs.{needs}
 use Rattle.integers.specs.Signed.{lt-0-false}
 use Rattle.case_files.proofs.printable.Statement.{statement}
 use Rattle.case_files.proofs.printable.Tie as tie

@@ -1,4 +1,4 @@
-use mathlib.Core.Path.{_≡_, sym, _∙_, subst}
+use mathlib.Core.Path.{sym, _∙_, subst}
 use Rattle.model.specs.Promises.{PointsHold}
 use Rattle.clearance.specs.Rows.{points-true}
 use borrow.Author.Needs.{needs}

@@ -1,15 +1,15 @@
 -- `many_points::answer` meets its contract: what the lookup finds is what the model defines, and it stands in the first three numbers. Assumes
 -- nothing.
-use mathlib.Core.Path.{_≡_, refl, sym, ap, _∙_, subst}
+use mathlib.Core.Path.{_≡_, sym, ap, _∙_, subst}
 use mathlib.Core.List.{List}
-use Prim.Native.Nat.{ℕ, _^_, _≤_, _<_}
+use Prim.Native.Nat.{_^_, _≤_, _<_}
 use native.Mathlib.Omega.{arith}
 use borrow.Author.Needs.{needs}
 use borrow.Author.Tests.{lt-ltb}
 use lib.IntN.{pos}
 use lib.ListN.{length, drop}
 use mir.Syntax.{w64}
-use mir.Val.{SFits, toZ}
+use mir.Val.{toZ}
 use mir.Facts.{toZ-ofZ}
 use Rattle.integers.specs.Signed.{read64}
 use Rattle.model.specs.Trees.{Tree}

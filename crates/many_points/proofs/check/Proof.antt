@@ -1,6 +1,5 @@
 -- `many_points::check` meets its contract: each return gives the number of the check that it stands for (`Checking`). Assumes nothing.
-use mathlib.Core.Path.{_≡_, refl, sym, ap, _∙_}
-use mathlib.Core.Bool.{true, false}
+use mathlib.Core.Path.{_≡_, sym, ap, _∙_}
 use Prim.Native.Nat.{_*_, _≤_, _<_}
 use native.Mathlib.Omega.{arith}
 use lib.ListN.{length}
@@ -10,13 +9,13 @@ use mir.Syntax.{w32}
 use mir.Val.{toZ, ofZ}
 use mir.Facts.{toZ-ofZ}
 use Rattle.integers.specs.Signed.{fits32}
-use Rattle.model.specs.Refusals.{check, first, stranger}
+use Rattle.model.specs.Refusals.{first}
 use Rattle.model.specs.Jobs.{coordinates, judgeWith, outline}
-use Rattle.model.specs.Store.{forest, storeOf, begins}
-use Rattle.model.specs.Entries.{spotsIn, spotsFit, pointsRefusal}
+use Rattle.model.specs.Store.{forest}
+use Rattle.model.specs.Entries.{spotsIn, pointsRefusal}
 use Rattle.ranges.specs.Legal.{Legal, legal-with}
 use Rattle.ranges.specs.Jobs.{grain-sized}
-use Rattle.forests.specs.Told.{checksOf, Told, told-of, trees-ready, whole-ready}
+use Rattle.forests.specs.Told.{Told, told-of, trees-ready, whole-ready}
 use Rattle.many_points.proofs.Checking.{after-numbers, after-count, after-trees, numbers-refused, numbers-passed, count-refused, count-passed, trees-refused, trees-passed, room-refused, store-told}
 use Rattle.many_points.proofs.check.Statement.{statement}
 use Rattle.many_points.proofs.check.Tie as tie
