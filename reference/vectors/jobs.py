@@ -215,6 +215,49 @@ def touching():
     case("touch_missed_slant_by_least", -8, -8, 4, 0, 1, 1, [cubic([-2, 3, 2, 1], [-3, 3, 0, -2])])
 
 
+def by_rows():
+    """Jobs drawn by rows, as 24 reaches are no longer than the plate's side, and one that just is not. They are never as long as
+    the side, which is a power of two."""
+    bend, slant = [20, 440, 700, 430, -300, 60, 480, 100], [40, 60, 300, 200]
+    # 480 and 504 are below 512, and 528 is above it.
+    case("rows_reach_one_below", 0, 0, 9, 4, 20, 2, [bend, slant])
+    case("rows_reach_greatest", 0, 0, 9, 4, 21, 2, [bend, slant])
+    case("rows_reach_one_above", 0, 0, 9, 4, 22, 2, [bend, slant])
+    case("rows_1_column", -7, 3, 5, 5, 1, 1, [[-5, 5, 20, 30]])
+    # The cell at the lower right is clear.
+    case("rows_2_columns", -32, -32, 6, 5, 2, 1, [[-20, -20, -10, 25], [6, 10, 20, 3, 20, 20, 25, 25]])
+    case("rows_128_columns", -512, -512, 10, 3, 42, 6, [[-400, 300, 100, -900, 200, 900, 440, -200], [-300, -420, 480, 400]])
+    # The line goes from the first column to the last, and to the last row.
+    case("rows_256_columns", -128, -128, 8, 0, 10, 3, [[-122, -40, 122, 122], [50, -80, 90, 10, -20, -100, 60, 70]])
+    # The reach is 20 and half a cell 32: no cell can be inside.
+    case("rows_reach_below_half_a_cell", -256, -256, 9, 6, 20, 3, [[-200, -180, -60, 40], [60, -40, 200, 260, 20, -260, 220, 30]])
+    # Along x and along y, each both ways, on the sides of cells and off them.
+    case("rows_lines_level", 0, 0, 8, 2, 10, 2, [[16, 32, 112, 32], [112, 99, 16, 99], [144, 40, 144, 216], [211, 216, 211, 40]])
+    # In all four directions, steep and flat.
+    case("rows_lines_slanting", -128, -128, 8, 2, 10, 2,
+         [[-110, -100, -20, -60], [-30, 20, -70, 110], [20, -20, 60, -110], [110, 90, 20, 50]])
+    # A line of one point: cells 5, or (3, 4), off it are clear.
+    case("rows_line_of_a_point", -63, -64, 7, 1, 5, 1, [[0, 0, 0, 0]])
+    # So are cells 5 off the upright line and (4, -3) or (-4, 3) off the slanting one.
+    case("rows_touch", -40, -41, 7, 1, 5, 8, [[0, 0, 12, 16], [-21, -80, -21, 0]])
+    case("rows_tight_bend", -128, -128, 8, 2, 10, 1, [[-100, -8, 160, 6, 160, -2, -90, 12]])
+    # Where they cross, a cell is inside of one and doubtful by others.
+    case("rows_edges_crossing", -128, -128, 8, 2, 10, 1,
+         [[-90, -90, 90, 90], [-100, 40, 100, -30], [0, 100, 0, -100], [-80, 60, 200, 20, -200, -20, 80, -60]])
+    # Over the left, the right, the lower and the upper side.
+    case("rows_over_each_side", -64, -64, 7, 2, 5, 1,
+         [[-40, -40, -110, -10, -110, 10, -40, 40], [40, 40, 110, 10, 110, -10, 40, -40],
+          [-40, -40, -10, -100, 10, -80, 40, -40], [-90, 30, 20, 95]])
+    # Left of the plate, below it, above it and off a corner, all within the reach; right of it just at the reach; and far off.
+    case("rows_edges_off", -64, -64, 7, 1, 5, 1,
+         [[-65, -20, -65, 20], [-30, -65, 10, -69, 20, -65, 40, -67], [-40, 65, 40, 68], [67, 67, 67, 67],
+          [69, -30, 69, 30], [-1000000, 1000000, -1000000, 1000000]])
+    case("rows_largest_plate", -1000000, -1000000, 20, 14, 43690, 10000,
+         [[-1000000, -200000, 1000000, -900000, -1000000, 1000000, -20000, -400000], [-1000000, -1000000, 1000000, 900000]])
+    # Pieces that were halved ten times: 899 nodes.
+    case("rows_deepest_at_one_end", 8000, -512, 10, 4, 42, 14, [cubic([0, 0, 0, 9000], [0] * 4)])
+
+
 def store(crate, names):
     data = TOP / "crates" / crate / "data"
     data.mkdir(parents=True, exist_ok=True)
@@ -234,8 +277,9 @@ def main():
     case("straight_longest_977", 0, -8, 4, 2, 4, 977, [[-1000000, 0, 1000000, 0]])
     case("straight_longest_976", 0, -8, 4, 2, 4, 976, [[-1000000, 0, 1000000, 0]])
     sizes()
-    # Not for points: their bounds know no reach.
+    # These two not for points: their bounds know no reach.
     touching()
+    by_rows()
     for path in sorted((TOP / "examples").glob("*.sheet")):
         cases["example_" + path.stem] = path.read_text()
     # With a finer grain its trees do not fit the lent store.
