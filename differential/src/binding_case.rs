@@ -2,7 +2,7 @@
 
 use crate::fault::{number_of, Comparison, Fault};
 use crate::jobs::sketch_job;
-use crate::numbers::{binding_job, describe, numbers_of, reference_job, Numbers};
+use crate::numbers::{binding_job, describe, is_by_rows, numbers_of, reference_job, Numbers};
 use crate::random::Random;
 use crate::sheets::odd_sheet;
 use crate::spoiling::spoil;
@@ -68,6 +68,9 @@ fn compare_map(random: &mut Random, job: &Numbers, tally: &mut Tally) -> Result<
         reference::map(&reference_job(job), &mut wanted_store, &mut wanted_cells),
         tally,
     );
+    if want.is_ok() {
+        tally.note_drawn(is_by_rows(job));
+    }
     Comparison::default()
         .value("safe map", got, want)
         .slice("store", &store, &wanted_store)

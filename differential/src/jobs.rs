@@ -2,7 +2,7 @@
 
 use crate::edges::{Ground, Mix, SHAPES};
 use crate::numbers::{
-    edge_at, lay, reference_job, Numbers, COUNT, GRAIN, M, N, PLACES, REACH, X, Y,
+    edge_at, lay, reference_job, rows_reach, Numbers, COUNT, GRAIN, M, N, PLACES, REACH, X, Y,
 };
 use crate::random::Random;
 use crate::tuning::{brink_grain, tied_grain, tied_reach};
@@ -88,11 +88,12 @@ fn lay_edges(random: &mut Random, job: &mut Numbers, ground: Ground) {
     }
 }
 
-/// A plate about the outline, or any other.
+/// A plate about the outline, some of them much wider, or any other.
 fn lay_plate(random: &mut Random, job: &mut Numbers, ground: Ground, spread: i32) {
     let about = ground.size.ilog2() as i32;
     job[N] = match random.below(10) {
         0 => random.between(0, 20),
+        1 | 2 => random.between(about + 4, about + 7).min(20),
         _ => random.between(about - 1, about + 3).clamp(0, 20),
     };
     job[M] = (job[N] - random.between(0, spread)).max(0);
@@ -107,14 +108,18 @@ fn lay_plate(random: &mut Random, job: &mut Numbers, ground: Ground, spread: i32
     }
 }
 
-/// A good part of the plate, so that all three letters turn up.
+/// A good part of the plate, so that all three letters turn up; one at which the
+/// map is drawn by rows, more often, as on small plates none is; or one at the
+/// brink of that.
 fn plain_reach(random: &mut Random, job: &Numbers) -> i32 {
-    let part = random.choose(&[1, 2, 3, 4, 5, 8, 20, 1_000_000]);
-    let reach = (1 << job[N]) / part + random.between(0, 3);
-    match random.below(20) {
+    let brink = rows_reach(job);
+    let reach = match random.below(20) {
         0 => random.choose(&[1, REACH_LIMIT]),
-        _ => reach.clamp(1, REACH_LIMIT),
-    }
+        1..=3 if brink > 0 => brink + random.between(-1, 1),
+        4..=14 if brink > 0 => brink / random.choose(&[1, 2, 3, 5, 10, 40]),
+        _ => (1 << job[N]) / random.choose(&[1, 2, 3, 4, 5, 8, 20]) + random.between(0, 3),
+    };
+    reach.clamp(1, REACH_LIMIT)
 }
 
 /// From leaves at once to many halvings; some are too fine.

@@ -3,7 +3,7 @@
 use crate::fault::{number_of, Comparison, Fault};
 use crate::jobs::{crowded_job, sketch_job, tuned_job};
 use crate::lent::Lent;
-use crate::numbers::{binding_job, describe, reference_job, Numbers, COUNT, M, N};
+use crate::numbers::{binding_job, describe, is_by_rows, reference_job, Numbers, COUNT, M, N};
 use crate::random::Random;
 use crate::rows::Row;
 use crate::spoiling::spoil;
@@ -45,6 +45,7 @@ pub fn compare(job: &Numbers, lengths: Lengths, salt: u64, tally: &mut Tally) ->
     );
     if let Ok(count) = result {
         wanted_nodes.part_mut()[0] = count;
+        tally.note_drawn(is_by_rows(&job));
     }
     tally.note(number_of(&result));
     Comparison::default()
@@ -78,6 +79,10 @@ pub fn drawn(random: &mut Random, tally: &mut Tally) -> Result<(), Fault> {
         _ => 4,
     };
     let mut job = tuned_job(random, spread);
+    // By rows no cell of a coarse map is inside: the reach is too short.
+    if is_by_rows(&job) && random.once_in(2) {
+        job[M] = (job[N] - random.between(5, 7)).max(0);
+    }
     // Many edges on a fine map take long.
     if job[COUNT] > 5 {
         job[M] = job[M].max(job[N] - 5);

@@ -65,6 +65,17 @@ pub fn binding_job(numbers: &Numbers) -> clearance::Job {
     job
 }
 
+/// The greatest reach at which a legal job's map is drawn by rows: 24 of them are
+/// no longer than the plate's side. Where it is 0, there is none.
+pub fn rows_reach(numbers: &Numbers) -> i32 {
+    (1 << numbers[N]) / 24
+}
+
+/// Whether a legal job's map is drawn by rows.
+pub fn is_by_rows(numbers: &Numbers) -> bool {
+    numbers[REACH] <= rows_reach(numbers)
+}
+
 /// The edge in a place of a legal job.
 pub fn edge_at(numbers: &Numbers, index: usize) -> Edge {
     let (places, _) = numbers[PLACES..MARKS].as_chunks();

@@ -59,8 +59,9 @@ impl Run {
         Some(())
     }
 
-    /// Checks after so many cases that each kind gave all it is to give. It does
-    /// not if the time was over before.
+    /// Checks after so many cases that each kind gave all it is to give, and that
+    /// a third of the maps or more were drawn each way. It does not if the time was
+    /// over before.
     pub fn check_variety(&self, cases: u64) -> Option<()> {
         if self.cases() < cases {
             return Some(());
@@ -77,7 +78,17 @@ impl Run {
                 return None;
             }
         }
+        let [others, by_rows] = self.drawn();
+        if 3 * others.min(by_rows) < others + by_rows {
+            println!("NO TEST: of the maps drawn {by_rows} are by rows and {others} not");
+            return None;
+        }
         Some(())
+    }
+
+    /// Maps drawn: not by rows, and by rows.
+    fn drawn(&self) -> [u64; 2] {
+        [0, 1].map(|way| self.tallies.iter().map(|tally| tally.drawn[way]).sum())
     }
 
     /// Prints a line a kind, and one for all.
@@ -89,6 +100,8 @@ impl Run {
         let seconds = self.start.elapsed().as_secs_f64();
         let cases = self.cases();
         let speed = calls as f64 / seconds;
+        let [others, by_rows] = self.drawn();
+        println!("{} maps drawn, {by_rows} of them by rows", others + by_rows);
         println!("{cases} cases, {calls} calls, no difference; {seconds:.1} s, {speed:.0} calls a second");
     }
 }

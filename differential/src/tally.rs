@@ -15,6 +15,8 @@ pub struct Tally {
     ties: [u64; TESTS],
     /// Points whose hi several edges attain, where they are counted.
     shared: u64,
+    /// Maps drawn: not by rows, and by rows.
+    pub drawn: [u64; 2],
 }
 
 impl Tally {
@@ -31,6 +33,11 @@ impl Tally {
     /// Notes a point whose hi several edges attain.
     pub fn note_shared(&mut self) {
         self.shared += 1;
+    }
+
+    /// Notes a map that was drawn.
+    pub fn note_drawn(&mut self, by_rows: bool) {
+        self.drawn[usize::from(by_rows)] += 1;
     }
 
     /// Whether as many ties were drawn as must be.
@@ -68,6 +75,10 @@ impl fmt::Display for Tally {
         }
         if self.shared > 0 {
             write!(out, "; ties: {} of edges", self.shared)?;
+        }
+        let [others, by_rows] = self.drawn;
+        if self.drawn != [0; 2] {
+            write!(out, "; drawn: {by_rows} by rows, {others} not")?;
         }
         Ok(())
     }

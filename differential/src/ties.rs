@@ -170,7 +170,12 @@ fn job_around(
     job[REACH] = reach;
     job[COUNT] = 1;
     job[M] = cell.power;
-    job[N] = cell.power + random.between(0, 4);
+    // Where there is one, most often a plate whose map is drawn by rows.
+    let rows_side = (24 * reach).ilog2() as i32 + 1;
+    job[N] = match rows_side - cell.power {
+        spread @ 0..=8 if !random.once_in(3) => cell.power + spread,
+        _ => cell.power + random.between(0, 4),
+    };
     let far = random.choose(&[0, 100, 990_000]);
     let side = 1 << (job[N] - job[M]);
     let mut index = 0;

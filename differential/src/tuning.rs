@@ -1,6 +1,8 @@
 //! Grains and reaches at which a comparison is equal or nearly so.
 
-use crate::numbers::{edge_at, reference_job, Numbers, COUNT, M, N, X, Y};
+use crate::numbers::{
+    edge_at, is_by_rows, reference_job, rows_reach, Numbers, COUNT, M, N, REACH, X, Y,
+};
 use crate::random::Random;
 use clearance_reference::strips::{Piece, Strip, DEEPEST};
 use clearance_reference::{trees, Refusal, GRAIN_LIMIT, REACH_LIMIT};
@@ -37,9 +39,17 @@ pub fn brink_grain(job: &Numbers) -> i32 {
     low
 }
 
-/// A reach that is about the least or the greatest distance of some cell, of
-/// any size, to some strip's upright box.
+/// A reach that is about some distance, and with which the map is drawn by rows
+/// just where it is with the job's own; that one, if none is soon found.
 pub fn tied_reach(random: &mut Random, job: &Numbers) -> i32 {
+    let fits = |reach: &i32| (*reach <= rows_reach(job)) == is_by_rows(job);
+    let mut reaches = (0..20).map(|_| some_distance(random, job));
+    reaches.find(fits).unwrap_or(job[REACH])
+}
+
+/// About the least or the greatest distance of some cell, of any size, to some
+/// strip's upright box.
+fn some_distance(random: &mut Random, job: &Numbers) -> i32 {
     let strip = some_strip(random, job, 5);
     let extent = strip.extent();
     let power = random.between(job[M], job[N]);
