@@ -19,11 +19,13 @@ use std::time::Duration;
 
 const USAGE: &str = "\
 usage: clearance_bench [--program PATH] [--examples FOLDER] [--seconds S] [--steps K]
+       clearance_bench --growth [--seconds S]
 
   --program PATH     the proved program, for the row of whole programs
   --examples FOLDER  the job sheets to time (the repository's)
   --seconds S        time for each implementation in each line of a table (0.1)
   --steps K          steps an edge of the sampling (32)
+  --growth           only the map's least times as edges, columns and the reach grow
   --as NAME < SHEET  be one whole program: reference or sampling
   --help             write this text
 
@@ -33,6 +35,8 @@ Exit status: 0 done, 1 an answer is wrong or a file cannot be used, 2 bad usage.
 const NOTES: &str = "
 Each time is the median of 7 to 1,001 calls that take turns, less the clock's own: processor time from 0.1 ms on where
 the system tells it, else the wall clock. Store, map, sheet and reply are cleared before each call, outside the clock.
+drawn by The proved library draws a map by rows where 24 reaches are no longer than the plate's side, else by quarters; the last
+         mean is of those by rows. The others know one way only.
 build    Both libraries draw the map of a plate of one cell, which is nearly all building: the proved one has no entry for
          the trees alone. The sampling makes its polyline.
 draw     The map without the building: the map's time less that of a plate of one cell. The same tricks draw from a
@@ -50,6 +54,7 @@ struct Asked {
     examples: PathBuf,
     budget: Duration,
     steps: usize,
+    growth: bool,
     whole: Option<Maker>,
     help: bool,
 }
@@ -61,6 +66,7 @@ fn asked(mut words: impl Iterator<Item = String>) -> Option<Asked> {
         examples: Path::new(env!("CARGO_MANIFEST_DIR")).join("../examples"),
         budget: Duration::from_millis(100),
         steps: sampling::STEPS,
+        growth: false,
         whole: None,
         help: false,
     };
@@ -81,6 +87,7 @@ fn asked(mut words: impl Iterator<Item = String>) -> Option<Asked> {
             "--as" => {
                 asked.whole = Some(Maker::program_named(&words.next()?)?);
             }
+            "--growth" => asked.growth = true,
             "--help" => asked.help = true,
             _ => return None,
         }
@@ -187,7 +194,27 @@ fn with_and_without_lines(cases: &[Case]) -> Result<Vec<[Case; 2]>, String> {
         .collect()
 }
 
+/// The series of the map's own table, their answers compared.
+fn map_series() -> Result<Vec<(&'static str, Vec<Case>)>, String> {
+    let checked = |title: &str, job| {
+        let case = Case::of(title, job)?;
+        check(&case)?;
+        Ok(case)
+    };
+    growth::map_series()
+        .into_iter()
+        .map(|(title, jobs)| {
+            let cases = jobs.into_iter().map(|job| checked(title, job));
+            Ok((title, cases.collect::<Result<_, String>>()?))
+        })
+        .collect()
+}
+
 fn run(asked: &Asked) -> Result<(), String> {
+    if asked.growth {
+        tables::print_map_growth(&map_series()?, asked.budget);
+        return Ok(());
+    }
     let cases = cases(asked)?;
     let pairs = with_and_without_lines(&cases)?;
     cases

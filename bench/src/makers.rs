@@ -85,6 +85,11 @@ impl Row {
             Row::Program => "program",
         }
     }
+
+    /// Whether a map is drawn in it, so that the way of drawing tells.
+    pub fn draws(self) -> bool {
+        matches!(self, Row::Map | Row::Draw | Row::Program)
+    }
 }
 
 /// A job with all that its calls need.
@@ -148,6 +153,21 @@ impl Case {
             program: None,
             steps: sampling::STEPS,
         })
+    }
+
+    /// Whether the proved library draws the map by rows: where 24 reaches are no
+    /// longer than the plate's side. Elsewhere it draws by quarters.
+    pub fn is_by_rows(&self) -> bool {
+        24 * self.job.reach <= 1 << self.job.n
+    }
+
+    /// The way of drawing in a word.
+    pub fn way(&self) -> &'static str {
+        if self.is_by_rows() {
+            "rows"
+        } else {
+            "quarters"
+        }
     }
 
     /// The middle of the plate, where a point is asked.

@@ -2,7 +2,7 @@
 
 use crate::growth;
 use crate::makers::{Case, Maker, Row};
-use crate::timing::medians;
+use crate::timing::{leasts, medians};
 use clearance_bench::exact::wrong_cells;
 use clearance_bench::{sampling, straight};
 use std::time::Duration;
@@ -45,30 +45,44 @@ fn shown_ratios(proved: bool) -> Vec<(Maker, Maker)> {
     RATIOS.into_iter().filter(wanted).collect()
 }
 
-/// Ratios of every row for every case, then the geometric means.
+/// Ratios of every row for every case, then the geometric means: of all, and where
+/// maps are drawn also of those by rows.
 pub fn print_ratios(cases: &[Case], proved: bool, budget: Duration) {
     let ratios = shown_ratios(proved);
     println!("Ratios of median times; below 1 the first is faster.\n");
-    print!("{:8} {:10} {:>14}", "row", "example", "reference µs");
+    print!("{:8} {:10} {:8}", "row", "example", "drawn by");
+    print!(" {:>14}", "reference µs");
     for (one, other) in &ratios {
         print!(" {:>24}", format!("{} / {}", one.name(), other.name()));
     }
     println!();
     for row in Row::ALL {
         let mut all = Vec::new();
+        let mut by_rows = Vec::new();
         for case in cases {
             let times = times(case, row, budget);
             if times == [None; 4] {
                 continue;
             }
-            print!("{:8} {:10}", row.name(), case.name);
+            let way = if row.draws() { case.way() } else { "" };
+            print!("{:8} {:10} {way:8}", row.name(), case.name);
             print!(" {:14.2}", times[Maker::Reference as usize].unwrap_or(0.0));
             print_line(ratios.iter().map(|&pair| ratio(&times, pair)));
             all.push(times);
+            if case.is_by_rows() {
+                by_rows.push(times);
+            }
         }
-        print!("{:8} {:10} {:14}", row.name(), "MEAN", "");
-        print_line(ratios.iter().map(|&pair| geometric_mean(&all, pair)));
+        print_means(row, "", &all, &ratios);
+        if row.draws() {
+            print_means(row, "rows", &by_rows, &ratios);
+        }
     }
+}
+
+fn print_means(row: Row, way: &str, all: &[Times], ratios: &[(Maker, Maker)]) {
+    print!("{:8} {:10} {way:8} {:14}", row.name(), "MEAN", "");
+    print_line(ratios.iter().map(|&pair| geometric_mean(all, pair)));
 }
 
 fn print_line(numbers: impl Iterator<Item = Option<f64>>) {
@@ -210,4 +224,40 @@ pub fn print_growth(proved: bool, budget: Duration) -> Result<(), String> {
         }
     }
     Ok(())
+}
+
+/// The map's least times, each series with what grows in it.
+pub fn print_map_growth(series: &[(&str, Vec<Case>)], budget: Duration) {
+    println!("Least time of the map in µs as one size grows.\n");
+    print!("{:>6} {:>7} {:>6}", "edges", "columns", "reach");
+    print!(" {:>10} {:8} {:>6}", "side/reach", "drawn by", "nodes");
+    println!(
+        " {:>10} {:>10} {:>18}",
+        "proved", "reference", "proved / reference"
+    );
+    for (title, cases) in series {
+        println!("with {title}:");
+        for case in cases {
+            let job = &case.job;
+            let columns = case.cells.len().isqrt();
+            let part = f64::from(1 << job.n) / f64::from(job.reach);
+            print!("{:6} {columns:7} {:6} {part:10.2}", job.count, job.reach);
+            print!(" {:8} {:6}", case.way(), case.nodes);
+            print_least(case, budget);
+        }
+    }
+}
+
+/// The least times of the proved library, if it is linked, and the reference.
+fn print_least(case: &Case, budget: Duration) {
+    let makers = [Maker::Proved, Maker::Reference];
+    let calls = makers.map(|maker| case.call(maker, Row::Map));
+    match leasts(&mut calls.into_iter().flatten().collect::<Vec<_>>(), budget)[..] {
+        [proved, reference] => {
+            let ratio = proved / reference;
+            println!(" {proved:10.1} {reference:10.1} {ratio:18.3}");
+        }
+        [reference] => println!(" {:>10} {reference:10.1} {:>18}", "-", "-"),
+        _ => println!(),
+    }
 }

@@ -1,4 +1,4 @@
-//! Medians of calls that take turns.
+//! Times of calls that take turns.
 
 use std::hint::black_box;
 use std::time::{Duration, Instant};
@@ -58,11 +58,23 @@ fn processor_time() -> Option<Duration> {
     None
 }
 
-/// The median time of each call in microseconds, less the clock's own. The
-/// calls take turns, and each round begins with another one, so that a busy
-/// machine is busy for all of them. A call that has had the budget drops out,
-/// so that a slow one does not leave the others with few rounds.
+/// The median time of each call in microseconds, less the clock's own.
 pub fn medians(calls: &mut [Call], budget: Duration) -> Vec<f64> {
+    in_turns(calls, budget, median)
+}
+
+/// The least time of each call, likewise.
+pub fn leasts(calls: &mut [Call], budget: Duration) -> Vec<f64> {
+    in_turns(calls, budget, |times| {
+        microseconds(times.into_iter().min().unwrap_or_default())
+    })
+}
+
+/// What is chosen of the times of each call, less the clock's own. The calls take
+/// turns, and each round begins with another one, so that a busy machine is busy
+/// for all of them. A call that has had the budget drops out, so that a slow one
+/// does not leave the others with few rounds.
+fn in_turns(calls: &mut [Call], budget: Duration, chosen: fn(Vec<Duration>) -> f64) -> Vec<f64> {
     let mut times: Vec<Vec<Duration>> = vec![Vec::new(); calls.len()];
     let is_done = |times: &[Duration]| {
         times.len() == MOST_ROUNDS
@@ -79,7 +91,7 @@ pub fn medians(calls: &mut [Call], budget: Duration) -> Vec<f64> {
     let clock = clock_cost();
     times
         .into_iter()
-        .map(|times| (median(times) - clock).max(0.001))
+        .map(|times| (chosen(times) - clock).max(0.001))
         .collect()
 }
 
@@ -90,5 +102,9 @@ fn clock_cost() -> f64 {
 
 fn median(mut times: Vec<Duration>) -> f64 {
     times.sort();
-    times[times.len() / 2].as_secs_f64() * 1e6
+    microseconds(times[times.len() / 2])
+}
+
+fn microseconds(time: Duration) -> f64 {
+    time.as_secs_f64() * 1e6
 }

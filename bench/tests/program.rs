@@ -32,12 +32,14 @@ fn the_tables_are_printed() {
     let text = printed(&["--seconds", "0", "--steps", "4"]);
     let wanted = if cfg!(feature = "proved") {
         // Of the whole program there are two without a proved one.
-        [1, 1, 3, 3, 5, 3, 3, 5, 1]
+        [1, 1, 3, 3, 3, 5, 5, 3, 3, 5, 1, 1]
     } else {
-        [0, 0, 1, 1, 2, 1, 1, 2, 1]
+        [0, 0, 1, 1, 1, 2, 2, 1, 1, 2, 1, 1]
     };
+    // Where maps are drawn there is a mean of those by rows too.
     let rows = [
-        "read", "write", "build", "map", "draw", "point", "lookup", "points", "program",
+        "read", "write", "build", "map", "map", "draw", "draw", "point", "lookup", "points",
+        "program", "program",
     ];
     let wanted: Vec<(&str, usize)> = rows.into_iter().zip(wanted).collect();
     assert_eq!(means(&text), wanted);
@@ -52,6 +54,21 @@ fn the_tables_are_printed() {
     }
     let beside = text.contains("256 points in one call and in 256 calls");
     assert_eq!(beside, cfg!(feature = "proved"));
+}
+
+#[test]
+fn the_growth_is_printed() {
+    let text = printed(&["--growth", "--seconds", "0"]);
+    for title in ["with edges:", "with columns:", "with reach:"] {
+        assert!(text.contains(title), "{title}");
+    }
+    // Only the last reach is too long for a map by rows.
+    let ways: Vec<bool> = text
+        .lines()
+        .filter(|line| line.starts_with("    "))
+        .map(|line| line.contains(" rows "))
+        .collect();
+    assert_eq!(ways, [vec![true; 15], vec![false]].concat());
 }
 
 #[test]
