@@ -30,7 +30,8 @@ fn cap(k: i64) -> i64
     if k < 1073741824 { k } else { 1073741824 }
 }
 
-fn inside(ax: i64, ay: i64, ex: i64, ey: i64, r: i64) -> bool
+// every point of the cell is nearer than the reach
+pub fn inside(ax: i64, ay: i64, ex: i64, ey: i64, r: i64) -> bool
     requires sizes { ⌜ SpanSized ax ay ex ey r ⌝ }
     ensures told { λ b. ⌜ b ≡ insideBy ax ay ex ey r ⌝ }
 {
@@ -41,7 +42,8 @@ fn inside(ax: i64, ay: i64, ex: i64, ey: i64, r: i64) -> bool
     far < reach
 }
 
-fn apart(ax: i64, ay: i64, ex: i64, ey: i64, r: i64) -> bool
+// the upright boxes are the reach apart, or more
+pub fn apart(ax: i64, ay: i64, ex: i64, ey: i64, r: i64) -> bool
     requires sizes { ⌜ SpanSized ax ay ex ey r ⌝ }
     ensures told { λ b. ⌜ b ≡ apartBy ax ay ex ey r ⌝ }
 {

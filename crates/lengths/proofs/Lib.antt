@@ -1,0 +1,2 @@
+-- Laws that the proofs of the lengths share.
+pub mod Found

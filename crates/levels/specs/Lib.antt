@@ -1,0 +1,2 @@
+-- The open columns of each row at each level.
+pub mod Open

@@ -1,0 +1,2 @@
+-- Laws that the proofs of raising share.
+pub mod Parts

@@ -1,0 +1,2 @@
+-- What raising leaves of a byte.
+pub mod Raised

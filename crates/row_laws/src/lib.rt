@@ -1,0 +1,1 @@
+// Laws of one strip over a row of cells. No code.

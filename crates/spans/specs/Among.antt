@@ -1,0 +1,18 @@
+-- What a stretch holds, and the sizes within which its ends are found. Assumes nothing.
+use mathlib.Core.Bool.{Bool, _&&_}
+use Prim.Native.Nat.{ℕ, _≤_, _<_}
+use lib.Dec.{T, leb, ltb}
+use lib.IntN.{ℤ, natAbs}
+use lib.Signed.{nonNeg}
+use Rattle.spans.specs.declared.Span.{Span}
+
+-- i is one of the stretch
+abbrev pub among : Span → ℕ → Bool
+among c i = leb (c .lo) i && ltb i (c .hi)
+
+-- a place and a step above 0
+pub record StepSized (v d : ℤ) : Type 0 where
+  pub v-size : natAbs v ≤ 4611686018427387904
+  pub d-nonneg : T (nonNeg d)
+  pub d-above : 0 < natAbs d
+  pub d-size : natAbs d ≤ 1152921504606846976

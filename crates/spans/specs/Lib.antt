@@ -1,0 +1,2 @@
+-- What a stretch holds.
+pub mod Among
