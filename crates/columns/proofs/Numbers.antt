@@ -1,16 +1,13 @@
 -- The numbers of a frame and of a view with their bounds, and what is computed of them. Assumes nothing.
-use mathlib.Core.Path.{_≡_, sym, ap, ap₂, _∙_, subst}
+use mathlib.Core.Path.{_≡_, ap, _∙_, subst}
 use mathlib.Core.Bool.{Bool, true, false, cond}
 use Prim.Native.Nat.{ℕ, _*_, _≤_, _<_, _^_}
-use native.Mathlib.Nat.{mul-le-mul, mul-le-mul-right}
+use native.Mathlib.Nat.{mul-le-mul}
 use native.Mathlib.Omega.{arith}
 use lib.Dec.{T, ltb}
 use lib.IntN.{ℤ, pos, negsuc, negℤ, natAbs, _-ℤ_, _*ℤ_}
 use lib.Signed.{ltZ, nonNeg}
-use mir.Syntax.{w64}
-use mir.Val.{toZ}
-use mir.Facts.{toZ-pos}
-use Rattle.integers.specs.Signed.{Made, bits, lit, held, called, times, back, natAbs-add, natAbs-mul, natAbs-neg}
+use Rattle.integers.specs.Signed.{Made, bits, held, called, back, natAbs-add, natAbs-mul, natAbs-neg}
 use Rattle.integers.specs.Absolute.{absℤ, abs-size}
 use Rattle.strip_tests.specs.Limits.{SpanSized}
 use Rattle.spans.specs.Among.{StepSized}
@@ -19,6 +16,7 @@ use Rattle.row_laws.specs.Slanted.{alongQ}
 use Rattle.columns.specs.declared.Frame.{Frame}
 use Rattle.columns.specs.declared.View.{View}
 use Rattle.columns.specs.Limits.{FrameSized, ViewSized}
+use Rattle.columns.specs.Frames.{side-made}
 
 -- ---- what calls return
 pub abs-of : {u x v : ℤ} {B : ℕ} → Made u x B → v ≡ absℤ (bits u) → T (ltb B (2 ^ 63)) → Made v (absℤ x) B
@@ -33,31 +31,6 @@ along-of {u} {v} {x} {y} {w} m n e = called (rw (back m, back n) at e) (along-si
 
 pub gap-of : {u z r : ℤ} {B : ℕ} (s : ℤ) (i : ℕ) → Made u z B → r ≡ off s (bits u) (pos i) → natAbs r ≤ 1073741824 → Made r (off s z (pos i)) 1073741824
 gap-of {u} {z} {r} s i m e h = let f : r ≡ off s z (pos i) = rw (back m) at e in called f (subst (λ t. natAbs t ≤ 1073741824) f h) tt
-
--- a number times a count, as the code multiplies them
-pub by-count : {u x : ℤ} {A : ℕ} (k B : ℕ) → Made u x A → k < 2 ^ 63 → natAbs x * k ≤ B → T (ltb B (2 ^ 63)) → Made (bits u *ℤ toZ w64 k) (x *ℤ pos k) B
-by-count {u} {x} k B m h b t = called (ap₂ (λ a c. a *ℤ c) (back m) (toZ-pos w64 h)) (subst (λ n. n ≤ B) (sym (natAbs-mul x (pos k))) b) t
-
--- ---- of a frame
-module _ (f : Frame) (s : FrameSized f) where
-  pub x-made : Made (f .x) (f .x) 33554432
-  x-made = held (f .x) (s .x-size) tt
-
-  pub y-made : Made (f .y) (f .y) 33554432
-  y-made = held (f .y) (s .y-size) tt
-
-  pub half-made : Made (f .q) (f .q) 8388608
-  half-made = held (f .q) (s .q-size) tt
-
-  pub reach-made : Made (f .reach) (f .reach) 16777216
-  reach-made = held (f .reach) (s .reach-sized .r-size) tt
-
-  -- a cell's side
-  pub side-made : Made (toZ w64 2 *ℤ bits (f .q)) (pos 2 *ℤ f .q) 16777216
-  side-made = times (lit 2 tt) half-made tt
-
-  pub place-made : (i : ℕ) → i ≤ f .n → Made (bits (toZ w64 2 *ℤ bits (f .q)) *ℤ toZ w64 i) (pos 2 *ℤ f .q *ℤ pos i) 16777216
-  place-made i h = by-count i 16777216 side-made (omega (arith, s .n-size)) (rw (natAbs-mul (pos 2) (f .q)) (omega (arith, mul-le-mul-right (natAbs (f .q)) h, s .side-size))) tt
 
 -- ---- steps above 0
 nonneg-times : (a b : ℤ) → T (nonNeg a) → T (nonNeg b) → T (nonNeg (a *ℤ b))

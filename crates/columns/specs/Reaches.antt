@@ -1,15 +1,15 @@
 -- Of a strip as a frame sees it: its sizes, and how far along one axis the cells can be that it is not away from, or inside of. Assumes nothing.
-use mathlib.Core.Path.{_≡_, refl, sym, ap₂, subst}
+use mathlib.Core.Path.{_≡_, refl, sym, subst}
 use mathlib.Core.Bool.{not}
 use Prim.Native.Nat.{ℕ, _≤_}
 use native.Mathlib.Omega.{arith}
 use lib.Dec.{T}
 use lib.IntN.{ℤ, pos, negℤ, natAbs, _+ℤ_, _-ℤ_}
-use lib.Signed.{leZ, nonNeg, leZ-yes, yes-nonNeg}
+use lib.Signed.{leZ, leZ-yes, yes-nonNeg}
 use Rattle.integers.specs.RingSolver.{name₃, reify}
 use Rattle.integers.specs.Order.{_≼_, _⊞_}
 use Rattle.integers.specs.Omega.{zarith}
-use Rattle.integers.specs.Inequalities.{from, _&_, ≼-trans}
+use Rattle.integers.specs.Inequalities.{from, _&_}
 use Rattle.integers.specs.Absolute.{absℤ, abs-size, abs-nonneg}
 use Rattle.integers.specs.Signed.{natAbs-add, natAbs-neg, nonneg}
 use Rattle.model.specs.Strips.{Strip}

@@ -12,8 +12,8 @@ use mir.Facts.{toZ-ofZ, toZ-pos}
 use Rattle.integers.specs.Signed.{Made, called, held, back, natAbs-add, natAbs-mul}
 use Rattle.inheritance.specs.Blocks.{middle}
 use Rattle.search.specs.Probes.{CellSized}
-use Rattle.drawing.specs.declared.Frame.{Frame}
-use Rattle.drawing.specs.Ready.{FrameSized}
+use Rattle.columns.specs.declared.Frame.{Frame}
+use Rattle.columns.specs.Limits.{FrameSized}
 
 -- a count times a number, as the code multiplies them
 pub scaled : (k : ℕ) (q : ℤ) (B : ℕ) → k < 2 ^ 63 → SFits w64 q → k * natAbs q ≤ B → T (ltb B (2 ^ 63)) → Made (toZ w64 k *ℤ toZ w64 (ofZ w64 q)) (pos k *ℤ q) B

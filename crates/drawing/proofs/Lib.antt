@@ -3,3 +3,5 @@ pub mod Cells
 pub mod Settles
 pub mod Quartered
 pub mod Maps
+pub mod Depths
+pub mod Raises

@@ -36,7 +36,8 @@ use Rattle.open_edges.specs.Starts.{Starts}
 use Rattle.filling.specs.Squares.{In, over, Drawn}
 use Rattle.filling.specs.Quarters.{over-in, over-out}
 use Rattle.drawing.specs.Letters.{frameOf, ownLetter}
-use Rattle.drawing.specs.Ready.{FrameSized, Ready, MapReady}
+use Rattle.columns.specs.Limits.{FrameSized}
+use Rattle.drawing.specs.Ready.{Ready, MapReady}
 use Rattle.drawing.proofs.Cells.{nonneg-times}
 
 -- ---- ranges as sizes
@@ -108,6 +109,7 @@ frame-sized j good row h =
       x-size = omega (arith, natAbs-mul (pos 16) (j .x), s .corner-x);
       y-size = omega (arith, natAbs-add (pos 16 *ℤ j .y) (pos (2 * row) *ℤ pos q), natAbs-mul (pos 16) (j .y), natAbs-mul (pos (2 * row)) (pos q), s .corner-y, twice row q, row-size j good row h);
       q-nonneg = tt;
+      q-above = omega (arith, pow-pos (cellLog j));
       q-size = unit-size j good;
       side-size = side-size j good;
       reach-sized = record {

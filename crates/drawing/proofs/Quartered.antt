@@ -12,7 +12,7 @@ use Rattle.inheritance.specs.Edges.{opened}
 use Rattle.open_edges.specs.Starts.{Starts}
 use Rattle.filling.specs.Squares.{In, over, Drawn}
 use Rattle.filling.specs.Quarters.{quarters, over-agree}
-use Rattle.drawing.specs.declared.Frame.{Frame}
+use Rattle.columns.specs.declared.Frame.{Frame}
 use Rattle.drawing.specs.Letters.{asked}
 use Rattle.drawing.specs.Ready.{PowerOfTwo, Ready}
 

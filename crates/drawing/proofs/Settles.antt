@@ -13,7 +13,7 @@ use Rattle.inheritance.specs.Edges.{EachInherits, opened, leave-out, part-settl
 use Rattle.inheritance.specs.Blocks.{block, block-part}
 use Rattle.integers.specs.Signed.{nonneg}
 use Rattle.filling.specs.Squares.{In}
-use Rattle.drawing.specs.declared.Frame.{Frame}
+use Rattle.columns.specs.declared.Frame.{Frame}
 use Rattle.drawing.specs.Letters.{wayOf, asked, ownLetter}
 
 module _ (f : Frame) (hq : T (nonNeg (f .q))) (ts : List Tree) (each : EachInherits (wayOf f) ts) (c r w i j : ℕ) (h : In c r w i j) where

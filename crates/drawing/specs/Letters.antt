@@ -9,7 +9,7 @@ use Rattle.model.specs.Trees.{Tree}
 use Rattle.model.specs.Explore.{Cell, Answer, judged, exploreAll}
 use Rattle.model.specs.Plates.{doubtful, letter, settled, columns}
 use Rattle.inheritance.specs.Blocks.{block}
-use Rattle.drawing.specs.declared.Frame.{Frame}
+use Rattle.columns.specs.declared.Frame.{Frame}
 
 -- the frame of the rows of a job's map from one row on; from row 0 it is that of the whole map
 abbrev pub frameOf : Job → ℕ → Frame

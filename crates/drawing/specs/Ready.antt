@@ -1,10 +1,8 @@
--- What drawing asks for: a frame in which no number leaves its bounds, a block of it, a store with the open trees. Assumes nothing.
+-- What drawing asks for: a block of a frame, a store with the open trees. Assumes nothing.
 use mathlib.Core.Path.{_≡_}
 use mathlib.Core.List.{List}
-use Prim.Native.Nat.{ℕ, _+_, _*_, _^_, _≤_}
-use lib.Dec.{T}
-use lib.IntN.{ℤ, natAbs}
-use lib.Signed.{nonNeg}
+use Prim.Native.Nat.{ℕ, _+_, _^_, _≤_}
+use lib.IntN.{ℤ}
 use lib.ListN.{length, take}
 use Rattle.model.specs.declared.Job.{Job}
 use Rattle.model.specs.Jobs.{judge}
@@ -12,19 +10,9 @@ use Rattle.model.specs.Store.{forest}
 use Rattle.model.specs.Plates.{cellsOf}
 use Rattle.ranges.specs.Sizes.{EachSized}
 use Rattle.subtrees.specs.Preorder.{BeginsAll}
-use Rattle.strip_tests.specs.Limits.{ReachSized}
 use Rattle.open_edges.specs.Starts.{Forest}
-use Rattle.drawing.specs.declared.Frame.{Frame}
-
--- A corner is at most 16,000,000 fine units from 0, and a row of the plate begins at most 2^24 above it: together below 2^25.
-pub record FrameSized (f : Frame) : Type 0 where
-  pub n-size : f .n ≤ 256
-  pub x-size : natAbs (f .x) ≤ 33554432
-  pub y-size : natAbs (f .y) ≤ 33554432
-  pub q-nonneg : T (nonNeg (f .q))
-  pub q-size : natAbs (f .q) ≤ 8388608
-  pub side-size : f .n * natAbs (f .q) ≤ 8388608
-  pub reach-sized : ReachSized (f .reach)
+use Rattle.columns.specs.declared.Frame.{Frame}
+use Rattle.columns.specs.Limits.{FrameSized}
 
 pub record PowerOfTwo (w : ℕ) : Type 0 where
   pub level : ℕ

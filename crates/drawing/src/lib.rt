@@ -1,16 +1,19 @@
-// The map of a job from a store that holds its trees: the plate is quartered, a block that its open trees settle is filled at once, and each
-// quarter of any other asks only the trees that are still open.
+// The map of a job from a store that holds its trees, in one of two ways. The plate is quartered: a block that its open trees settle is filled at
+// once, and each quarter of any other asks only the trees that are still open. Or, where the reach is small, each tree is drawn over the rows.
+use columns::Frame;
 use model::CLEAR;
 use model::DOUBTFUL;
 use model::INSIDE;
 use model::Job;
+use nodes::COUNT;
+use nodes::WIDTH;
 ghost use mathlib.Core.Path.{_≡_};
 ghost use mathlib.Core.Bool.{true, false};
 ghost use mathlib.Core.List.{List};
 ghost use Prim.Native.Nat.{ℕ, _+_, _*_, _^_, _≤_, _<_};
 ghost use lib.Dec.{T};
 ghost use lib.IntN.{pos, natAbs, _+ℤ_, _*ℤ_};
-ghost use lib.Signed.{nonNeg};
+ghost use lib.Signed.{nonNeg, leZ};
 ghost use lib.ListN.{length, take};
 ghost use Rattle.model.specs.Jobs.{judge, cellLog};
 ghost use Rattle.model.specs.Trees.{Tree};
@@ -18,20 +21,15 @@ ghost use Rattle.model.specs.Plates.{columns, mapOf};
 ghost use Rattle.model.specs.Entries.{over as written};
 ghost use Rattle.inheritance.specs.Edges.{EachInherits};
 ghost use Rattle.inheritance.specs.Blocks.{middle as middleOf};
+ghost use Rattle.subtrees.specs.At.{At};
 ghost use Rattle.open_edges.specs.Starts.{Starts, AllInside, StillOpen};
 ghost use Rattle.filling.specs.Squares.{In, over, Drawn};
+ghost use Rattle.columns.specs.Limits.{FrameSized};
+ghost use Rattle.levels.specs.Open.{Levels};
+ghost use Rattle.rows.specs.Levels.{AllOpen};
 ghost use Rattle.drawing.specs.Letters.{frameOf, wayOf, asked, ownLetter};
 ghost use Rattle.drawing.specs.Ready.{Ready, MapReady};
-
-// Where rows of a map lie: cells a row, the lower left corner of the first row and half a smallest cell's side in fine units, and the reach in
-// fine units.
-pub struct Frame {
-    pub n: usize,
-    pub x: i64,
-    pub y: i64,
-    pub q: i64,
-    pub reach: i64,
-}
+ghost use Rattle.drawing.specs.ByRows.{Shallow, EachShallow, ShallowAt, Listed, RowsOpen, raisedTo, treeSays, treesSay};
 
 // the middle of w columns from column c on, of half width q each, from x
 fn middle(x: i64, q: i64, c: usize, w: usize) -> i64
@@ -157,6 +155,74 @@ fn draw(
     draw(map, store, &keep, kept, frame, c + h, r + h, h);
 }
 
+// ---- by rows
+
+// raises each cell of the map to what the tree that starts at place a answers for it
+fn draw_at(
+    map: &mut [u8],
+    store: &[i32],
+    a: usize,
+    frame: Frame,
+    los: &mut [u16; 3072],
+    his: &mut [u16; 3072],
+)
+    requires tree { ⌜ ShallowAt (now store) a ⌝ }
+    requires ready { ⌜ RowsOpen frame (now map) (now los) (now his) ⌝ }
+    ensures letters { λ _. ⌜ ((t : Tree) → At (now (store .entry)) a t → Shallow t → Drawn (frame .n) (now (map .exit)) (now (map .entry)) (raisedTo frame (treeSays frame t))) ⌝ }
+    ensures ready { λ _. ⌜ Levels (frame .n) (now (los .exit)) (now (his .exit)) × AllOpen (frame .n) (frame .n) (now (los .exit)) (now (his .exit)) ⌝ }
+{
+    let size = nodes::count_at(store, a + COUNT);
+    let b = a + WIDTH * size;
+    let n = frame.n;
+    rows::draw_tree(map, &store[a..b], frame, n, los, his);
+}
+
+// the same for the trees that start at the first `count` numbers of list
+fn draw_trees(
+    map: &mut [u8],
+    store: &[i32],
+    list: &[usize; 64],
+    count: usize,
+    frame: Frame,
+    los: &mut [u16; 3072],
+    his: &mut [u16; 3072],
+)
+    requires trees { ⌜ Listed (now store) (now list) count ⌝ }
+    requires ready { ⌜ RowsOpen frame (now map) (now los) (now his) ⌝ }
+    ensures letters { λ _. ⌜ ((ts : List Tree) → Starts (now (store .entry)) (take count (now (list .entry))) ts → EachShallow ts → Drawn (frame .n) (now (map .exit)) (now (map .entry)) (raisedTo frame (treesSay frame ts))) ⌝ }
+{
+    let mut e: usize = 0;
+    while e < count {
+        let a = list[e];
+        draw_at(map, store, a, frame, los, his);
+        e += 1;
+    }
+}
+
+// draws the n rows a tree at a time: C everywhere, and then what each tree raises it to
+fn draw_by_rows(map: &mut [u8], store: &[i32], list: &[usize; 64], count: usize, frame: Frame)
+    requires trees { ⌜ Listed (now store) (now list) count ⌝ }
+    requires ready { ⌜ FrameSized frame × (frame .n * frame .n ≤ length (now map)) ⌝ }
+    ensures letters { λ _. ⌜ ((ts : List Tree) → Starts (now (store .entry)) (take count (now (list .entry))) ts → EachShallow ts → Drawn (frame .n) (now (map .exit)) (now (map .entry)) (over (ownLetter frame ts) 0 0 (frame .n))) ⌝ }
+{
+    let n = frame.n;
+    filling::fill_square(map, n, 0, 0, n, CLEAR);
+    let mut los = levels::none();
+    let mut his = levels::none();
+    levels::open_all(&mut los, &mut his, n, n);
+    draw_trees(map, store, list, count, frame, &mut los, &mut his);
+}
+
+// Whether rows are the faster way: the reach is small beside the plate, so that few of a row's cells are near an edge.
+fn is_by_rows(frame: Frame) -> bool
+    requires sizes { ⌜ FrameSized frame ⌝ }
+    ensures small { λ b. ⌜ b ≡ leZ (pos 24 *ℤ frame .reach) (pos 2 *ℤ frame .q *ℤ pos (frame .n)) ⌝ }
+{
+    24 * frame.reach <= 2 * frame.q * frame.n as i64
+}
+
+// ---- a job's frame and its map
+
 fn power_of_two(k: usize) -> usize
     requires small { ⌜ k ≤ 20 ⌝ }
     ensures power { λ r. ⌜ r ≡ 2 ^ k ⌝ }
@@ -238,6 +304,10 @@ pub fn draw_map(cells: &mut [u8], store: &[i32], job: Job)
     let mut list = no_starts();
     open_edges::list_starts(store, count, &mut list);
     let frame = frame_of(job, 0);
+    if is_by_rows(frame) {
+        draw_by_rows(cells, store, &list, count, frame);
+        return;
+    }
     let side = frame.n;
     draw(cells, store, &list, count, frame, 0, 0, side);
 }

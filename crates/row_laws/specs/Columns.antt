@@ -12,7 +12,7 @@ use Rattle.integers.specs.Order.{_≼_, _⊠_, gap, pos-≼}
 use Rattle.integers.specs.Omega.{zarith}
 use Rattle.integers.specs.Inequalities.{from, ≼-trans}
 use Rattle.integers.specs.Absolute.{absℤ, abs-is, ≼-abs, neg≼-abs}
-use Rattle.integers.specs.Tests.{alike, T-both, is-true}
+use Rattle.integers.specs.Tests.{alike, T-both}
 use Rattle.strip_tests.specs.PlainTests.{insideBy, apartBy}
 use Rattle.inheritance.specs.Blocks.{middle}
 use Rattle.row_laws.specs.Growth.{apart-farther, inside-nearer}

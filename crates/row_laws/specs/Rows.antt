@@ -1,5 +1,5 @@
 -- One strip and one cell, x and y from the strip's centre to the cell's: where it is not away by both tests, and how far along one axis that can be. Assumes nothing.
-use mathlib.Core.Path.{_≡_, refl, sym, subst}
+use mathlib.Core.Path.{_≡_, refl}
 use mathlib.Core.Bool.{Bool, true, false, not, _&&_, _||_}
 use lib.Dec.{T}
 use lib.IntN.{ℤ, pos, _+ℤ_, _-ℤ_}
@@ -7,7 +7,7 @@ use lib.Signed.{leZ}
 use Rattle.integers.specs.Order.{_≼_}
 use Rattle.integers.specs.Inequalities.{weak}
 use Rattle.integers.specs.Absolute.{absℤ}
-use Rattle.integers.specs.Tests.{is-true, negated, or-false, true-le}
+use Rattle.integers.specs.Tests.{is-true, negated, or-false}
 use Rattle.model.specs.Jobs.{isZero}
 use Rattle.ranges.specs.Zeros.{zero-is}
 use Rattle.strip_tests.specs.PlainTests.{insideBy, apartBy, slantedBy}

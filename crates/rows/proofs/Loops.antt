@@ -1,16 +1,16 @@
 -- The loop over a part of a store: what holds of the map and of the levels' arrays at each turn, and what is left at the end. Assumes nothing.
-use mathlib.Core.Path.{_≡_, refl, ap, ap₂, _∙_}
+use mathlib.Core.Path.{_≡_, refl, ap, ap₂, _∙_, sym, subst}
 use mathlib.Core.Bool.{Bool, true, false, not, cond, _&&_}
 use mathlib.Core.List.{List, _∷_}
 use Prim.Native.Nat.{ℕ, zero, suc, _+_, _*_, _≤_, _<_, max}
 use native.Mathlib.Omega.{arith}
 use borrow.Author.Tests.{lt-ltb, le-ltb, le-leb, ltb-true, ltb-false, eqb-true, eqb-false}
 use lib.Dec.{leb, ltb, eqb}
-use lib.IntN.{ℤ}
-use lib.ListN.{length, getD, set, replicate}
+use lib.IntN.{ℤ, pos, natAbs, _+ℤ_}
+use lib.ListN.{length, getD, set, replicate, drop, length-set}
 use lib.Seq.{getD-set-same, getD-set-other}
 use Rattle.model.specs.Trees.{Tree}
-use Rattle.model.specs.Store.{flatten}
+use Rattle.model.specs.Store.{flatten, width, size}
 use Rattle.model.specs.Explore.{explore}
 use Rattle.ranges.specs.Sizes.{AllSized}
 use Rattle.subtrees.specs.Pending as pending
@@ -20,13 +20,18 @@ use Rattle.spans.specs.Among.{among}
 use Rattle.raising.specs.Raised.{raised}
 use Rattle.columns.specs.declared.Frame.{Frame}
 use Rattle.columns.specs.declared.View.{View}
-use Rattle.columns.specs.Views.{awayIn, insideIn, asked₁}
+use Rattle.columns.specs.Views.{awayIn, insideIn, asked₁, viewOf}
 use Rattle.levels.specs.Open.{Levels, openIn}
 use Rattle.rows.specs.Weights.{weight}
-use Rattle.rows.specs.Waiting.{depth}
-use Rattle.rows.specs.Levels.{AllOpen}
+use Rattle.rows.specs.Waiting.{depth, ShallowTree}
+use Rattle.rows.specs.Levels.{AllOpen, Narrowed}
 use Rattle.rows.proofs.Turns.{and-false}
-use Rattle.rows.proofs.Walks.{State, end, rowsIn, openAt}
+use Rattle.rows.proofs.Walks.{State, end, rowsIn, openAt, Next, next, past, past-leaf, into}
+use lib.Signed.{leZ}
+use Rattle.integers.specs.Absolute.{absℤ}
+use Rattle.nodes.specs.Places.{countPlace, stripIn}
+use Rattle.row_laws.specs.Columns.{off}
+use Rattle.columns.specs.Limits.{FrameSized}
 
 -- what holds of the arrays whatever the tree is, and the state of each tree that the part may hold
 pub record Sofar (f : Frame) (high : ℕ) (l : List ℤ) (old map los his ends lows highs : List ℕ) (d at : ℕ) : Type 0 where
@@ -92,3 +97,111 @@ finished f high l old map los his ends lows highs d at s h t z p e = record { ce
     go : (i j : ℕ) → i < f .n → (b : Bool) → ltb j high ≡ b → getD map (j * f .n + i) 0 ≡ cond b (max (getD old (j * f .n + i) 0) (weight (explore (asked₁ f i j) t))) (getD old (j * f .n + i) 0)
     go i j a true k = end f high l t old (s .states t z p e) h i j a (ltb-true j high k)
     go i j a false k = s .beyond i j a (ltb-false j high k)
+
+-- ---- a turn: the last level that has not ended is e, the view of the node at hand v, the rows of that level that it reaches `rows`, its count n
+module _ {f : Frame} {high : ℕ} {l : List ℤ} {old map los his ends lows highs : List ℕ} {d e at : ℕ} (S : Sofar f high l old map los his ends lows highs d at) (more : at < length l)
+    (e-is : (e ≤ d) × (at < getD ends e 0) × ((k : ℕ) → e < k → k ≤ d → getD ends k 0 ≤ at)) where
+  -- of any tree that the part may hold the node is the next
+  pub node : (t : Tree) → AllSized t → depth t ≤ 10 → l ≡ flatten t → Next f high l t old map los his ends lows highs e at
+  node t z p k = next f high l t old (S .states t z p k) more (e-is .0) (e-is .1) (e-is .2)
+
+  pub low : e ≤ 10
+  low = omega (arith, e-is .0, S .shallow-enough)
+
+  module _ (fs : FrameSized f) (within : high ≤ f .n) (v : View) (v-is : v ≡ viewOf f (stripIn (drop at l))) (near rows : Span)
+      (near-is : (j : ℕ) → among near j ≡ leZ (absℤ (off (f .q) (v .y) (pos j))) (v .ey +ℤ f .reach))
+      (rows-are : (j : ℕ) → among rows j ≡ (among (rowsIn lows highs e) j && among near j)) (few : rows .hi ≤ high)
+      (n : ℕ) (n-is : n ≡ natAbs (getD l (at + countPlace) (pos 0))) where
+    size-is : (t : Tree) (w : Next f high l t old map los his ends lows highs e at) → n ≡ size (w .tree)
+    size-is t w = n-is ∙ ap natAbs (pending.count-is (w .rest))
+
+    -- no row is left: past the whole subtree
+    pub gone : {p : ℕ} → rows .hi ≤ rows .lo → p ≡ at + width * n → Sofar f high l old map los his ends lows highs e p
+    gone h q = record {
+      levels = S .levels;
+      opened = S .opened;
+      ends-long = S .ends-long;
+      lows-long = S .lows-long;
+      highs-long = S .highs-long;
+      whole = S .whole;
+      first = S .first;
+      most = S .most;
+      shallow-enough = low;
+      beyond = S .beyond;
+      states = λ t z p k. let w = node t z p k in past f high l t old w fs v v-is near rows near-is rows-are h (omega (arith, q, size-is t w));
+    }
+
+    -- the node was visited
+    module _ (map′ los′ his′ : List ℕ) (b : Bool) (same-length : length map′ ≡ length map)
+        (D : Drawn (f .n) map′ map (λ i j x. raised (b && (among rows j && openIn los his e i j && not (awayIn f v i j))) 68 (raised (among rows j && openIn los his e i j && insideIn f v i j) 73 x)))
+        (N : Narrowed f v e rows los his los′ his′) where
+      narrow-enough : high ≤ 256
+      narrow-enough = omega (arith, within, fs .n-size)
+
+      still-open : AllOpen (f .n) high los′ his′
+      still-open j h = N .same 0 j (omega arith) (omega (arith, h, narrow-enough)) ∙ S .opened j h
+
+      beyond′ : (i j : ℕ) → i < f .n → high ≤ j → getD map′ (j * f .n + i) 0 ≡ getD old (j * f .n + i) 0
+      beyond′ i j h k = untouched f v e rows b map map′ los his D i j h (omega (arith, few, k)) ∙ S .beyond i j h k
+
+      -- a leaf
+      pub done : {p : ℕ} → b ≡ true → n ≡ 1 → p ≡ at + width → Sofar f high l old map′ los′ his′ ends lows highs e p
+      done g one q = record {
+        levels = N .levels;
+        opened = still-open;
+        ends-long = S .ends-long;
+        lows-long = S .lows-long;
+        highs-long = S .highs-long;
+        whole = same-length ∙ S .whole;
+        first = S .first;
+        most = S .most;
+        shallow-enough = low;
+        beyond = beyond′;
+        states = λ t z p k. let w = node t z p k in past-leaf f high l t old w fs v v-is near rows near-is rows-are narrow-enough map′ los′ his′ b D N g (omega (arith, size-is t w, one)) q;
+      }
+
+      -- any other: a level more, which ends where its subtree does and has its rows
+      module _ (k : ShallowTree l) (g : b ≡ false) (many : n ≡ 1 → ⊥) where
+        abbrev stop : ℕ
+        stop = at + width * n
+
+        abbrev ends′ : List ℕ
+        ends′ = set ends (e + 1) stop
+
+        abbrev lows′ : List ℕ
+        lows′ = set lows (e + 1) (rows .lo)
+
+        abbrev highs′ : List ℕ
+        highs′ = set highs (e + 1) (rows .hi)
+
+        up : suc e ≡ e + 1
+        up = omega arith
+
+        halves : (t : Tree) → AllSized t → depth t ≤ 10 → l ≡ flatten t → (suc e ≤ 10) × State f high l t old map′ los′ his′ ends′ lows′ highs′ (suc e) (at + width)
+        halves t z p i =
+            let w = node t z p i in
+            into f high l t old w fs v v-is near rows near-is rows-are narrow-enough map′ los′ his′ b D N ends′ lows′ highs′
+            (λ x h. getD-set-other ends (e + 1) x stop 0 (λ r. omega (arith, r, h)))
+            (λ x h. levels-same lows highs e x (rows .lo) (rows .hi) h)
+            (subst (λ (x : ℕ). getD ends′ x 0 ≡ at + width * size (w .tree)) (sym up) (getD-set-same ends (e + 1) stop 0 (omega (arith, S .ends-long, low)) ∙ omega (arith, size-is t w)))
+            (subst (λ (x : ℕ). rowsIn lows′ highs′ x ≡ rows) (sym up) (level-new lows highs e (rows .lo) (rows .hi) (omega (arith, S .lows-long, low)) (omega (arith, S .highs-long, low))))
+            g (λ r. many (size-is t w ∙ r)) refl
+
+        below : Sofar f high l old map′ los′ his′ ends′ lows′ highs′ (e + 1) (at + width)
+        below = record {
+          levels = N .levels;
+          opened = still-open;
+          ends-long = length-set ends (e + 1) stop ∙ S .ends-long;
+          lows-long = length-set lows (e + 1) (rows .lo) ∙ S .lows-long;
+          highs-long = length-set highs (e + 1) (rows .hi) ∙ S .highs-long;
+          whole = same-length ∙ S .whole;
+          first = getD-set-other ends (e + 1) 0 stop 0 (λ r. omega (arith, r)) ∙ S .first;
+          most = most-still highs (e + 1) high (rows .hi) (omega (arith, S .highs-long, low)) few (S .most);
+          shallow-enough = omega (arith, halves (k .tree) (k .sized) (k .shallow) (k .is) .0);
+          beyond = beyond′;
+          states = λ t z p i. subst (λ (x : ℕ). State f high l t old map′ los′ his′ ends′ lows′ highs′ x (at + width)) up (halves t z p i .1);
+        }
+
+        -- with what was written for it
+        pub deeper : {m x y z p : ℕ} → m ≡ e + 1 → x ≡ stop → y ≡ rows .lo → z ≡ rows .hi → p ≡ at + width → Sofar f high l old map′ los′ his′ (set ends m x) (set lows m y) (set highs m z) m p
+        deeper a c y z p = rw (a, c, y, z, p) below

@@ -17,6 +17,14 @@ use Rattle.columns.specs.Views.{awayIn}
 use Rattle.rows.specs.Levels.{Narrowed}
 use Rattle.rows.proofs.Tests.{pair, guarded, regroup}
 
+-- a stretch that was read at place p, which is that of row j at level d
+pub at-level : (los his : List ℕ) (p j d : ℕ) (c : Span) → c ≡ record { lo = getD los p 0; hi = getD his p 0 } → p ≡ placeOf d j → c ≡ spanIn los his d j
+at-level los his p j d c e h = e ∙ ap (λ (n : ℕ). record { lo = getD los n 0; hi = getD his n 0 }) h
+
+-- goes no farther than column n
+pub read-most : (n : ℕ) (los his : List ℕ) (p : ℕ) (c : Span) → Levels n los his → c ≡ record { lo = getD los p 0; hi = getD his p 0 } → c .hi ≤ n
+read-most n los his p c h e = subst (λ (x : Span). x .hi ≤ n) (sym e) (h .fits p)
+
 -- no row yet
 pub none-narrowed : (f : Frame) (v : View) (d a : ℕ) (los his : List ℕ) → Levels (f .n) los his → Narrowed f v d (record { lo = a; hi = a }) los his los his
 none-narrowed f v d a los his h = record { levels = h; kept = λ i j t. absurd (none j t); same = λ k j a b. refl }

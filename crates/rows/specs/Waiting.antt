@@ -1,6 +1,6 @@
 -- A walk over an edge's part of the store with a level for each node that stands over the present one: the trees that wait, in store order, each
 -- with its level, which ends where the subtree of that node does. Assumes nothing.
-use mathlib.Core.Path.{_≡_, refl, ap, ap₂, subst}
+use mathlib.Core.Path.{_≡_, refl, ap₂, subst}
 use mathlib.Core.Bool.{Bool, cond}
 use mathlib.Core.List.{List, [], _∷_}
 use Prim.Native.Nat.{ℕ, suc, _+_, _*_, _≤_, _<_, max}

@@ -1,6 +1,6 @@
 -- What an answer raises a cell's byte to: nothing where it is away, else its letter. Letters only grow, C 67 < D 68 < I 73, so that painting is
 -- taking the larger, and the order of nodes and of edges is free. Assumes nothing.
-use mathlib.Core.Path.{_≡_, refl, ap, _∙_}
+use mathlib.Core.Path.{_≡_, refl}
 use mathlib.Core.Bool.{Bool, true, false, not, cond, _&&_}
 use mathlib.Core.List.{List, [], _∷_}
 use Prim.Native.Nat.{ℕ, _≤_, max}

@@ -60,8 +60,8 @@ fn paint_deep(
     let end = near.hi;
     let mut j = near.lo;
     while j < end {
-        let c = spans::meet(levels::columns_at(los, his, d, j), aside);
-        let found = columns::deep(v, frame, j, c);
+        let held = levels::columns_at(los, his, d, j);
+        let found = columns::deep(v, frame, j, spans::meet(held, aside));
         raising::raise_row(map, n, j, found, INSIDE);
         j += 1;
     }

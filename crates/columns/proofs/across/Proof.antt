@@ -13,7 +13,8 @@ use Rattle.spans.specs.Among.{StepSized, among}
 use Rattle.row_laws.specs.Slanted.{alongQ, shared}
 use Rattle.columns.specs.declared.Frame.{Frame}
 use Rattle.columns.specs.declared.View.{View}
-use Rattle.columns.proofs.Numbers.{abs-of, along-of, p-made, q-made, vx-made, side-made, side-sized, step-sized}
+use Rattle.columns.specs.Frames.{side-made}
+use Rattle.columns.proofs.Numbers.{abs-of, along-of, p-made, q-made, vx-made, side-sized, step-sized}
 use Rattle.columns.proofs.Crossings.{abs-is-nonneg, abs-above, zero-taken, zero-left, all-p, all-q, across-is}
 use Rattle.columns.proofs.across.Statement.{statement}
 use Rattle.columns.proofs.across.Tie as tie

@@ -7,7 +7,7 @@ use mir.Syntax.{w64}
 use mir.Val.{toZ}
 use Rattle.integers.specs.Signed.{Made, bits, arg, minus, back}
 use Rattle.row_laws.specs.Columns.{off}
-use Rattle.columns.proofs.Numbers.{side-made, place-made}
+use Rattle.columns.specs.Frames.{side-made, place-made}
 use Rattle.columns.proofs.gap.Statement.{statement}
 use Rattle.columns.proofs.gap.Tie as tie
 

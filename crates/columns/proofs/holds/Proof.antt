@@ -9,7 +9,8 @@ use Rattle.strip_tests.specs.Limits.{SpanSized}
 use Rattle.row_laws.specs.Columns.{off}
 use Rattle.columns.specs.declared.Frame.{Frame}
 use Rattle.columns.specs.declared.View.{View}
-use Rattle.columns.proofs.Numbers.{abs-of, gap-of, vx-made, ex-made, ey-made, reach-made, span-sized}
+use Rattle.columns.specs.Frames.{reach-made}
+use Rattle.columns.proofs.Numbers.{abs-of, gap-of, vx-made, ex-made, ey-made, span-sized}
 use Rattle.columns.proofs.holds.Statement.{statement}
 use Rattle.columns.proofs.holds.Tie as tie
 

@@ -1,7 +1,8 @@
 -- `columns::reached` meets its contract. Assumes nothing.
 use native.Mathlib.Omega.{arith}
 use Rattle.integers.specs.Signed.{Made, arg, back}
-use Rattle.columns.proofs.Numbers.{side-made, side-sized}
+use Rattle.columns.specs.Frames.{side-made}
+use Rattle.columns.proofs.Numbers.{side-sized}
 use Rattle.columns.proofs.reached.Statement.{statement}
 use Rattle.columns.proofs.reached.Tie as tie
 

@@ -12,7 +12,8 @@ use Rattle.model.specs.Explore.{squares}
 use Rattle.model.specs.Roots.{root}
 use Rattle.columns.specs.declared.Frame.{Frame}
 use Rattle.columns.specs.declared.View.{View}
-use Rattle.columns.proofs.Numbers.{abs-of, by-count, p-made, q-made, a-made, b-made, reach-made}
+use Rattle.columns.specs.Frames.{by-count, reach-made}
+use Rattle.columns.proofs.Numbers.{abs-of, p-made, q-made, a-made, b-made}
 use Rattle.columns.proofs.Crossings.{natAbs-squares, abs-is-nonneg, zero-taken, no-room-p, no-room-q}
 use Rattle.columns.proofs.room_of.Statement.{statement}
 use Rattle.columns.proofs.room_of.Tie as tie

@@ -9,7 +9,8 @@ use Rattle.nodes.specs.Places.{sideIn}
 use Rattle.nodes.specs.Structs.{Known, known}
 use Rattle.columns.specs.declared.Frame.{Frame}
 use Rattle.columns.specs.declared.View.{View}
-use Rattle.columns.proofs.Numbers.{abs-of, x-made, y-made, half-made}
+use Rattle.columns.specs.Frames.{x-made, y-made, half-made}
+use Rattle.columns.proofs.Numbers.{abs-of}
 use Rattle.columns.proofs.view_of.Statement.{statement}
 use Rattle.columns.proofs.view_of.Tie as tie
 

@@ -1,5 +1,5 @@
--- `drawing::draw_map` meets its contract: the plate is one block, drawn over what the map held. Assumes nothing.
-use mathlib.Core.Path.{sym, subst}
+-- `drawing::draw_map` meets its contract: either way the plate is drawn over what the map held. Assumes nothing.
+use mathlib.Core.Path.{_≡_, sym, subst}
 use mathlib.Core.List.{List}
 use Prim.Native.Nat.{ℕ, _+_, _*_, _≤_}
 use native.Mathlib.Omega.{arith}
@@ -7,12 +7,15 @@ use borrow.Author.Needs.{needs}
 use lib.ListN.{length, take}
 use Rattle.model.specs.declared.Job.{Job}
 use Rattle.model.specs.Store.{forest}
+use Rattle.model.specs.Plates.{mapOf}
+use Rattle.model.specs.Entries.{over as written}
 use Rattle.inheritance.specs.Edges.{EachInherits}
 use Rattle.open_edges.specs.Starts.{Starts}
 use Rattle.filling.specs.Squares.{over, Drawn}
-use Rattle.drawing.specs.declared.Frame.{Frame}
+use Rattle.columns.specs.declared.Frame.{Frame}
 use Rattle.drawing.specs.Letters.{wayOf, ownLetter}
 use Rattle.drawing.specs.Ready.{Ready}
+use Rattle.drawing.proofs.Depths.{forest-shallow}
 use Rattle.drawing.proofs.Maps.{held, count-most, whole-ready, inherits, map-is}
 use Rattle.drawing.proofs.draw_map.Statement.{statement}
 use Rattle.drawing.proofs.draw_map.Tie as tie
@@ -54,20 +57,41 @@ module _ (c : tie.After-frame-of) where
       subst (λ (f : Frame). Ready (start .args .store .now) list (job .count) f 0 0 (f .n) × ((0 + f .n) * f .n ≤ length (start .args .cells .now))) (sym (c .frame-of .ensures))
       (whole-ready job (start .args .cells .now) (start .args .store .now) (start .pre) list (c .before .list-starts .ensures .0) starts, omega (arith, start .pre .room))
 
-draw-requires : tie.Need-draw-requires
-draw-requires c κs = ready (c .before .before)
+  -- the letters drawn are the map's
+  finished : (new : List ℕ) → length new ≡ length (start .args .cells .now) → Drawn (c .frame-of .result .n) new (start .args .cells .now) (over (ownLetter (c .frame-of .result) (forest job)) 0 0 (c .frame-of .result .n)) → new ≡ written (mapOf job) (start .args .cells .now)
+  finished new e d =
+      map-is job (start .pre .accepted) new (start .args .cells .now) e (start .pre .room)
+      (subst (λ (f : Frame). Drawn (f .n) new (start .args .cells .now) (over (ownLetter f (forest job)) 0 0 (f .n))) (c .frame-of .ensures) d)
+
+is-by-rows-requires : tie.Need-is-by-rows-requires
+is-by-rows-requires c κs = ready c .0 .frame-sized
+
+draw-by-rows-requires : tie.Need-draw-by-rows-requires
+draw-by-rows-requires c κs =
+    let e = c .before .before .before .before in
+    let r = ready e in
+    (record { list-long = r .0 .list-long; count-most = r .0 .count-most; trees = forest (job e); starts = starts e; shallow = forest-shallow (job e) }, (r .0 .frame-sized, omega (arith, r .1)))
 
 same-length : tie.Need-same-length
 same-length c = search needs
 
 returns : tie.Need-returns
 returns c =
-    let e = c .before .before .before .before .before in
+    let e = c .before .before .before .before .before .before .before in
+    let d = c .before .before .draw-by-rows in
+    finished e (d .last .0) (d .kept .0) (d .ensures (forest (job e)) (starts e) (forest-shallow (job e)))
+
+draw-requires : tie.Need-draw-requires
+draw-requires c κs = ready (c .before .before .before .before)
+
+same-length-2 : tie.Need-same-length-2
+same-length-2 c = search needs
+
+returns-2 : tie.Need-returns-2
+returns-2 c =
+    let e = c .before .before .before .before .before .before .before in
     let d = c .before .before .draw in
-    let s = start e in
-    let drawn : Drawn (e .frame-of .result .n) (d .last .0) (s .args .cells .now) (over (ownLetter (e .frame-of .result) (forest (job e))) 0 0 (e .frame-of .result .n)) = d .ensures (forest (job e)) (starts e) (each e) in
-    map-is (job e) (s .pre .accepted) (d .last .0) (s .args .cells .now) (d .kept .0) (s .pre .room)
-    (subst (λ (f : Frame). Drawn (f .n) (d .last .0) (s .args .cells .now) (over (ownLetter f (forest (job e))) 0 0 (f .n))) (e .frame-of .ensures) drawn)
+    finished e (d .last .0) (d .kept .0) (d .ensures (forest (job e)) (starts e) (each e))
 
 pub draw-map-spec : {M : Type 1} → statement M
 draw-map-spec =
@@ -76,6 +100,10 @@ draw-map-spec =
     no-starts-requires
     list-starts-requires
     frame-of-requires
-    draw-requires
+    is-by-rows-requires
+    draw-by-rows-requires
     same-length
-    returns)
+    returns
+    draw-requires
+    same-length-2
+    returns-2)

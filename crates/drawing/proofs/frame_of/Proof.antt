@@ -9,7 +9,7 @@ use mir.Syntax.{w64}
 use mir.Val.{toZ, ofZ}
 use Rattle.integers.specs.Signed.{natAbs-mul, read32, read64}
 use Rattle.model.specs.Jobs.{cellLog}
-use Rattle.drawing.specs.declared.Frame.{Frame}
+use Rattle.columns.specs.declared.Frame.{Frame}
 use Rattle.drawing.proofs.Maps.{job-numbers, columns-few, row-size, fine-back}
 use Rattle.drawing.proofs.frame_of.Statement.{statement}
 use Rattle.drawing.proofs.frame_of.Tie as tie

@@ -6,11 +6,11 @@ use mir.Syntax.{w64}
 use mir.Val.{toZ, ofZ}
 use Rattle.integers.specs.Signed.{read64}
 use Rattle.inheritance.specs.Blocks.{middle}
-use Rattle.drawing.specs.declared.Frame.{Frame}
+use Rattle.columns.specs.declared.Frame.{Frame}
 use Rattle.search.specs.Probes.{judgedBy}
 use Rattle.open_edges.specs.Starts.{AllInside, StillOpen}
 use Rattle.drawing.specs.Letters.{asked}
-use Rattle.drawing.specs.Ready.{FrameSized}
+use Rattle.columns.specs.Limits.{FrameSized}
 use Rattle.drawing.proofs.Cells.{x-back, y-back, q-back, reach-back, block-sized, middle-asked, half-asked, middle-is, half-is}
 use Rattle.drawing.proofs.look.Statement.{statement}
 use Rattle.drawing.proofs.look.Tie as tie

@@ -10,7 +10,7 @@ use lib.Dec.{eqb}
 use lib.ListN.{length, getD, set, length-set}
 use lib.Seq.{getD-set-same, getD-set-other}
 use Rattle.spans.specs.declared.Span.{Span}
-use Rattle.levels.specs.Open.{Small, placeOf, normalOf, normal-most}
+use Rattle.levels.specs.Open.{Small, placeOf, normal-most}
 use Rattle.levels.proofs.put.Statement.{statement}
 use Rattle.levels.proofs.put.Tie as tie
 

@@ -2,7 +2,7 @@
 use mathlib.Core.Path.{_≡_, refl, sym, ap, _∙_, subst}
 use mathlib.Core.Bool.{_&&_}
 use mathlib.Core.List.{List, _∷_}
-use Prim.Native.Nat.{ℕ, suc, _+_, _*_, _-_, _≤_}
+use Prim.Native.Nat.{ℕ, _+_, _*_, _-_, _≤_, _<_}
 use native.Mathlib.Nat.{mul-le-mul-right}
 use native.Mathlib.Omega.{arith}
 use borrow.Author.Needs.{needs}
@@ -10,13 +10,11 @@ use borrow.Author.Tests.{eq-eqb, ne-eqb}
 use lib.Dec.{T, eqb}
 use lib.IntN.{ℤ, pos, natAbs, _+ℤ_}
 use lib.Signed.{leZ, nonNeg}
-use lib.ListN.{length, getD, drop, set, replicate, length-set, length-drop}
-use lib.Seq.{getD-set-same, getD-set-other}
+use lib.ListN.{length, getD, drop, replicate, length-drop}
 use Rattle.integers.specs.Signed.{Made, bits, held, plus, widen, back}
 use Rattle.integers.specs.Absolute.{absℤ}
 use Rattle.model.specs.Trees.{Tree}
-use Rattle.model.specs.Store.{width, size, flatten}
-use Rattle.ranges.specs.Sizes.{AllSized}
+use Rattle.model.specs.Store.{width, size}
 use Rattle.nodes.specs.Places.{countPlace, stripIn}
 use Rattle.subtrees.specs.Preorder.{tail}
 use Rattle.subtrees.specs.Pending as pending
@@ -28,9 +26,8 @@ use Rattle.columns.specs.declared.View.{View}
 use Rattle.columns.specs.Views.{viewOf}
 use Rattle.columns.specs.Limits.{FrameSized, ViewSized}
 use Rattle.columns.specs.Reaches.{view-sized, ey-size}
-use Rattle.rows.specs.Waiting.{depth}
-use Rattle.rows.proofs.Walks.{State, Next, rowsIn, begin, next, room, has-node, past, past-leaf, into}
-use Rattle.rows.proofs.Loops.{Sofar, untouched, levels-same, level-new, all-open, first-most, most-still, finished}
+use Rattle.rows.proofs.Walks.{Next, rowsIn, begin, room, has-node}
+use Rattle.rows.proofs.Loops.{Sofar, node, low, gone, done, deeper, all-open, first-most, finished}
 use Rattle.rows.proofs.draw_tree.Statement.{statement}
 use Rattle.rows.proofs.draw_tree.Tie as tie
 
@@ -91,15 +88,15 @@ module _ (c : tie.After-level-at Inv-loop μ-loop) where
   abbrev NextOf : Tree → Type 0
   NextOf t = Next (start .args .frame) (start .args .high) numbers t (start .args .map .now) (c .before .before .before .loop .map) (c .before .before .before .loop .los) (c .before .before .before .loop .his) (c .before .before .before .loop .ends) (c .before .before .before .loop .lows) (c .before .before .before .loop .highs) level place
 
-  -- of any tree that the part holds it is the next
-  node : (t : Tree) → AllSized t → depth t ≤ 10 → numbers ≡ flatten t → NextOf t
-  node t z p e =
-      next (start .args .frame) (start .args .high) numbers t (start .args .map .now) (c .before .before .before .loop .inv .states t z p e) (omega (arith, c .before .before .loop-test .taken))
-      (c .level-at .ensures .0) (c .level-at .ensures .1) (c .level-at .ensures .2)
+  inv : Sofar (start .args .frame) (start .args .high) numbers (start .args .map .now) (c .before .before .before .loop .map) (c .before .before .before .loop .los) (c .before .before .before .loop .his) (c .before .before .before .loop .ends) (c .before .before .before .loop .lows) (c .before .before .before .loop .highs) (c .before .before .before .loop .d) place
+  inv = c .before .before .before .loop .inv
+
+  ahead : place < length numbers
+  ahead = omega (arith, c .before .before .loop-test .taken)
 
   -- of the one that the contract names
   abbrev known : NextOf (start .pre .0 .tree)
-  known = let k = start .pre .0 in node (k .tree) (k .sized) (k .shallow) (k .is)
+  known = let k = start .pre .0 in node inv ahead (c .level-at .ensures) (k .tree) (k .sized) (k .shallow) (k .is)
 
   front : place + width ≤ length numbers
   front = omega (arith, room (start .args .frame) (start .args .high) numbers (start .pre .0 .tree) (start .args .map .now) known, has-node (start .args .frame) (start .args .high) numbers (start .pre .0 .tree) (start .args .map .now) known)
@@ -107,8 +104,8 @@ module _ (c : tie.After-level-at Inv-loop μ-loop) where
   counted : T (nonNeg (getD numbers (place + countPlace) (pos 0)))
   counted = rw (pending.count-is (known .rest)) tt
 
-  low : level ≤ 10
-  low = omega (arith, c .level-at .ensures .0, c .before .before .before .loop .inv .shallow-enough)
+  lowest : level ≤ 10
+  lowest = low inv ahead (c .level-at .ensures)
 
 add-count-at : tie.Need-add-count-at Inv-loop μ-loop
 add-count-at c = omega (arith, front c)
@@ -134,16 +131,16 @@ view-of-requires c κs =
     rw (tail (place k) (numbers k)) (omega (arith, front k, length-drop (place k) (numbers k)), pending.strip-sized (known k .rest), start k .pre .1 .0)
 
 mul-t24 : tie.Need-mul-t24 Inv-loop μ-loop
-mul-t24 c = omega (arith, low (c .before .before .before))
+mul-t24 c = omega (arith, lowest (c .before .before .before))
 
 array-read-t28 : tie.Need-array-read-t28 Inv-loop μ-loop
-array-read-t28 c = omega (arith, low (c .before .before .before))
+array-read-t28 c = omega (arith, lowest (c .before .before .before))
 
 mul-t33 : tie.Need-mul-t33 Inv-loop μ-loop
-mul-t33 c = omega (arith, low (c .before .before .before))
+mul-t33 c = omega (arith, lowest (c .before .before .before))
 
 array-read-t36 : tie.Need-array-read-t36 Inv-loop μ-loop
-array-read-t36 c = omega (arith, low (c .before .before .before))
+array-read-t36 c = omega (arith, lowest (c .before .before .before))
 
 -- ---- its view is made
 module _ (c : tie.After-view-of Inv-loop μ-loop) where
@@ -229,30 +226,14 @@ loop-less c = let h = within (c .before) in omega (arith, h .0, h .1)
 loop-again : tie.Need-loop-again Inv-loop μ-loop
 loop-again c =
     let m = c .before in
-    let s = start (found m) in
-    let i = c .before .before .before .before .before .before .before .before .before .before .before .before .before .before .loop .inv in
-    record {
-      levels = i .levels;
-      opened = i .opened;
-      ends-long = i .ends-long;
-      lows-long = i .lows-long;
-      highs-long = i .highs-long;
-      whole = i .whole;
-      first = i .first;
-      most = i .most;
-      shallow-enough = low (found m);
-      beyond = i .beyond;
-      states = λ t z p e.
-          let w = node (found m) t z p e in
-          past (s .args .frame) (s .args .high) (numbers (found m)) t (s .args .map .now) w (frame-sized (seen m)) (view (seen m)) (view-is (seen m)) (near m) (rows m) (near-is m) (rows-are m) (omega (arith, c .if1 .taken)) (omega (arith, size-is m t w));
-    }
+    gone (inv (found m)) (ahead (found m)) (c .before .before .before .before .before .before .before .before .before .before .before .level-at .ensures) (frame-sized (seen m)) (start (found m) .pre .1 .1) (view (seen m)) (view-is (seen m)) (near m) (rows m) (near-is m) (rows-are m) (few m) (count m) (c .before .before .before .before .before .before .before .before .before .before .count-at .ensures) (omega (arith, c .if1 .taken)) (omega arith)
 
 visit-requires : tie.Need-visit-requires Inv-loop μ-loop
 visit-requires c κs =
     let m = c .before .before .before .before in
     let s = start (found m) in
     let i = c .before .before .before .before .before .before .before .before .before .before .before .before .before .before .before .before .before .loop .inv in (
-      record { view-sized = view-fits (seen m); frame-sized = frame-sized (seen m); levels = i .levels; shallow = omega (arith, low (found m)); few = omega (arith, few m, s .pre .1 .1) },
+      record { view-sized = view-fits (seen m); frame-sized = frame-sized (seen m); levels = i .levels; shallow = omega (arith, lowest (found m)); few = omega (arith, few m, s .pre .1 .1) },
       omega (arith, i .whole, s .pre .1 .2, mul-le-mul-right (s .args .frame .n) (few m)),
     )
 
@@ -260,25 +241,25 @@ add-at : tie.Need-add-at Inv-loop μ-loop
 add-at c = omega (arith, front (found (c .before .before .before .before .before .before .before)), short (start (found (c .before .before .before .before .before .before .before))))
 
 add-d : tie.Need-add-d Inv-loop μ-loop
-add-d c = omega (arith, low (c .before .before .before .before .before .before .before .before .before .before .before .before .before .before .before .before .before .before))
+add-d c = omega (arith, lowest (c .before .before .before .before .before .before .before .before .before .before .before .before .before .before .before .before .before .before))
 
 mul-ends : tie.Need-mul-ends Inv-loop μ-loop
-mul-ends c = omega (arith, low (c .before .before .before .before .before .before .before .before .before .before .before .before .before .before .before .before .before .before))
+mul-ends c = omega (arith, lowest (c .before .before .before .before .before .before .before .before .before .before .before .before .before .before .before .before .before .before))
 
 array-write-ends-2 : tie.Need-array-write-ends-2 Inv-loop μ-loop
-array-write-ends-2 c = omega (arith, low (c .before .before .before .before .before .before .before .before .before .before .before .before .before .before .before .before .before .before))
+array-write-ends-2 c = omega (arith, lowest (c .before .before .before .before .before .before .before .before .before .before .before .before .before .before .before .before .before .before))
 
 mul-lows : tie.Need-mul-lows Inv-loop μ-loop
-mul-lows c = omega (arith, low (c .before .before .before .before .before .before .before .before .before .before .before .before .before .before .before .before .before .before))
+mul-lows c = omega (arith, lowest (c .before .before .before .before .before .before .before .before .before .before .before .before .before .before .before .before .before .before))
 
 array-write-lows : tie.Need-array-write-lows Inv-loop μ-loop
-array-write-lows c = omega (arith, low (c .before .before .before .before .before .before .before .before .before .before .before .before .before .before .before .before .before .before))
+array-write-lows c = omega (arith, lowest (c .before .before .before .before .before .before .before .before .before .before .before .before .before .before .before .before .before .before))
 
 mul-highs : tie.Need-mul-highs Inv-loop μ-loop
-mul-highs c = omega (arith, low (c .before .before .before .before .before .before .before .before .before .before .before .before .before .before .before .before .before .before))
+mul-highs c = omega (arith, lowest (c .before .before .before .before .before .before .before .before .before .before .before .before .before .before .before .before .before .before))
 
 array-write-highs-2 : tie.Need-array-write-highs-2 Inv-loop μ-loop
-array-write-highs-2 c = omega (arith, low (c .before .before .before .before .before .before .before .before .before .before .before .before .before .before .before .before .before .before))
+array-write-highs-2 c = omega (arith, lowest (c .before .before .before .before .before .before .before .before .before .before .before .before .before .before .before .before .before .before))
 
 loop-less-2 : tie.Need-loop-less-2 Inv-loop μ-loop
 loop-less-2 c = omega (arith, front (c .before .before .before .before .before .before .before .before .before .before .before .before .before .before .before .before .before .before))
@@ -286,43 +267,11 @@ loop-less-2 c = omega (arith, front (c .before .before .before .before .before .
 loop-again-2 : tie.Need-loop-again-2 Inv-loop μ-loop
 loop-again-2 c =
     let m = c .before .before .before .before .before .before .before .before in
-    let k = found m in
-    let s = start k in
-    let a = s .args in
-    let l = c .before .before .before .before .before .before .before .before .before .before .before .before .before .before .before .before .before .before .before .before .before .loop in
-    let i = l .inv in
     let v = c .before .before .before .visit in
-    let d = level k in
-    let stop = place k + 11 * count m in
-    let ends = set (l .ends) (d + 1) stop in
-    let lows = set (l .lows) (d + 1) (rows m .lo) in
-    let highs = set (l .highs) (d + 1) (rows m .hi) in
-    let up : suc d ≡ d + 1 = omega arith in
     let many : count m ≡ 1 → ⊥ = λ e. omega (arith, e, c .if2 .taken) in
-    let halves : (t : Tree) → AllSized t → depth t ≤ 10 → numbers k ≡ flatten t → (suc d ≤ 10) × State (a .frame) (a .high) (numbers k) t (a .map .now) (v .last .0) (v .last .1 .0) (v .last .1 .1 .0) ends lows highs (suc d) (place k + 11) =
-    λ t z p e.
-    let w = node k t z p e in
-    into (a .frame) (a .high) (numbers k) t (a .map .now) w (frame-sized (seen m)) (view (seen m)) (view-is (seen m)) (near m) (rows m) (near-is m) (rows-are m)
-    (omega (arith, s .pre .1 .1, s .pre .1 .0 .n-size)) (v .last .0) (v .last .1 .0) (v .last .1 .1 .0) (eqb (count m) 1) (v .ensures .0) (v .ensures .1)
-    ends lows highs
-    (λ x h. getD-set-other (l .ends) (d + 1) x stop 0 (λ e. omega (arith, e, h)))
-    (λ x h. levels-same (l .lows) (l .highs) d x (rows m .lo) (rows m .hi) h)
-    (subst (λ (x : ℕ). getD ends x 0 ≡ place k + width * size (w .tree)) (sym up) (getD-set-same (l .ends) (d + 1) stop 0 (omega (arith, i .ends-long, low k)) ∙ omega (arith, size-is m t w)))
-    (subst (λ (x : ℕ). rowsIn lows highs x ≡ rows m) (sym up) (level-new (l .lows) (l .highs) d (rows m .lo) (rows m .hi) (omega (arith, i .lows-long, low k)) (omega (arith, i .highs-long, low k))))
-    (ne-eqb (count m) 1 many) (λ e. many (size-is m t w ∙ e)) (omega arith) in
-    record {
-      levels = v .ensures .1 .levels;
-      opened = λ j h. v .ensures .1 .same 0 j (omega arith) (omega (arith, h, s .pre .1 .1, s .pre .1 .0 .n-size)) ∙ i .opened j h;
-      ends-long = length-set (l .ends) (d + 1) stop ∙ i .ends-long;
-      lows-long = length-set (l .lows) (d + 1) (rows m .lo) ∙ i .lows-long;
-      highs-long = length-set (l .highs) (d + 1) (rows m .hi) ∙ i .highs-long;
-      whole = v .kept .0 ∙ i .whole;
-      first = getD-set-other (l .ends) (d + 1) 0 stop 0 (λ e. omega (arith, e)) ∙ i .first;
-      most = most-still (l .highs) (d + 1) (a .high) (rows m .hi) (omega (arith, i .highs-long, low k)) (few m) (i .most);
-      shallow-enough = let h = s .pre .0 in omega (arith, halves (h .tree) (h .sized) (h .shallow) (h .is) .0);
-      beyond = λ x j h o. untouched (a .frame) (view (seen m)) d (rows m) (eqb (count m) 1) (l .map) (v .last .0) (l .los) (l .his) (v .ensures .0) x j h (omega (arith, few m, o)) ∙ i .beyond x j h o;
-      states = λ t z p e. subst (λ (x : ℕ). State (a .frame) (a .high) (numbers k) t (a .map .now) (v .last .0) (v .last .1 .0) (v .last .1 .1 .0) ends lows highs x (place k + 11)) up (halves t z p e .1);
-    }
+    deeper (inv (found m)) (ahead (found m)) (c .before .before .before .before .before .before .before .before .before .before .before .before .before .before .before .before .before .before .level-at .ensures) (frame-sized (seen m)) (start (found m) .pre .1 .1) (view (seen m)) (view-is (seen m)) (near m) (rows m) (near-is m) (rows-are m) (few m) (count m) (c .before .before .before .before .before .before .before .before .before .before .before .before .before .before .before .before .before .count-at .ensures)
+    (v .last .0) (v .last .1 .0) (v .last .1 .1 .0) (eqb (count m) 1) (v .kept .0) (v .ensures .0) (v .ensures .1)
+    (start (found m) .pre .0) (ne-eqb (count m) 1 many) many (omega arith) (omega arith) (omega arith) (omega arith) (omega arith)
 
 loop-less-3 : tie.Need-loop-less-3 Inv-loop μ-loop
 loop-less-3 c = omega (arith, front (c .before .before .before .before .before .before .before .before .before .before .before .before .before .before .before .before .before .before))
@@ -330,29 +279,11 @@ loop-less-3 c = omega (arith, front (c .before .before .before .before .before .
 loop-again-3 : tie.Need-loop-again-3 Inv-loop μ-loop
 loop-again-3 c =
     let m = c .before .before .before .before .before .before .before .before in
-    let k = found m in
-    let s = start k in
-    let a = s .args in
-    let l = c .before .before .before .before .before .before .before .before .before .before .before .before .before .before .before .before .before .before .before .before .before .loop in
-    let i = l .inv in
     let v = c .before .before .before .visit in
     let one : count m ≡ 1 = omega (arith, c .if2 .left, within m .0) in
-    record {
-      levels = v .ensures .1 .levels;
-      opened = λ j h. v .ensures .1 .same 0 j (omega arith) (omega (arith, h, s .pre .1 .1, s .pre .1 .0 .n-size)) ∙ i .opened j h;
-      ends-long = i .ends-long;
-      lows-long = i .lows-long;
-      highs-long = i .highs-long;
-      whole = v .kept .0 ∙ i .whole;
-      first = i .first;
-      most = i .most;
-      shallow-enough = low k;
-      beyond = λ x j h o. untouched (a .frame) (view (seen m)) (level k) (rows m) (eqb (count m) 1) (l .map) (v .last .0) (l .los) (l .his) (v .ensures .0) x j h (omega (arith, few m, o)) ∙ i .beyond x j h o;
-      states = λ t z p e.
-          let w = node k t z p e in
-          past-leaf (a .frame) (a .high) (numbers k) t (a .map .now) w (frame-sized (seen m)) (view (seen m)) (view-is (seen m)) (near m) (rows m) (near-is m) (rows-are m)
-          (omega (arith, s .pre .1 .1, s .pre .1 .0 .n-size)) (v .last .0) (v .last .1 .0) (v .last .1 .1 .0) (eqb (count m) 1) (v .ensures .0) (v .ensures .1) (eq-eqb (count m) 1 one) (omega (arith, size-is m t w, one)) (omega arith);
-    }
+    done (inv (found m)) (ahead (found m)) (c .before .before .before .before .before .before .before .before .before .before .before .before .before .before .before .before .before .before .level-at .ensures) (frame-sized (seen m)) (start (found m) .pre .1 .1) (view (seen m)) (view-is (seen m)) (near m) (rows m) (near-is m) (rows-are m) (few m) (count m) (c .before .before .before .before .before .before .before .before .before .before .before .before .before .before .before .before .before .count-at .ensures)
+    (v .last .0) (v .last .1 .0) (v .last .1 .1 .0) (eqb (count m) 1) (v .kept .0) (v .ensures .0) (v .ensures .1)
+    (eq-eqb (count m) 1 one) one (omega arith)
 
 same-length : tie.Need-same-length Inv-loop μ-loop
 same-length c = c .before .loop .inv .whole

@@ -8,14 +8,14 @@ use lib.IntN.{_+ℤ_}
 use Rattle.integers.specs.Signed.{Made, bits, held, plus, widen, back}
 use Rattle.spans.specs.declared.Span.{Span}
 use Rattle.spans.specs.Among.{among}
-use Rattle.levels.specs.Open.{placeOf, openIn}
+use Rattle.levels.specs.Open.{openIn}
 use Rattle.columns.specs.Views.{awayIn}
 use Rattle.columns.specs.Limits.{RoomFor}
 use Rattle.columns.specs.Reaches.{ex-size, kept-x}
 use Rattle.rows.specs.Levels.{Narrowed}
 use Rattle.rows.proofs.Turns.{all-rows}
 use Rattle.rows.proofs.Tests.{free}
-use Rattle.rows.proofs.Narrows.{none-narrowed, row-narrowed, rows-narrowed}
+use Rattle.rows.proofs.Narrows.{at-level, read-most, none-narrowed, row-narrowed, rows-narrowed}
 use Rattle.rows.proofs.narrow.Statement.{statement}
 use Rattle.rows.proofs.narrow.Tie as tie
 
@@ -69,7 +69,7 @@ module _ (c : tie.After-meet Inv-loop μ-loop) where
   fits : c .meet .result .hi ≤ start .args .frame .n
   fits =
       let l = c .before .before .before .before .before .loop in
-      let h : c .before .columns-at .result .hi ≤ start .args .frame .n = subst (λ (x : Span). x .hi ≤ start .args .frame .n) (sym (c .before .columns-at .ensures)) (l .inv .2 .levels .fits (placeOf (start .args .d) row)) in
+      let h : c .before .columns-at .result .hi ≤ start .args .frame .n = read-most (start .args .frame .n) (l .los) (l .his) _ (c .before .columns-at .result) (l .inv .2 .levels) (c .before .columns-at .ensures) in
       omega (arith, c .meet .ensures .1 .1, h)
 
   room : RoomFor (start .args .frame) (start .args .v) (bits (c .before .before .before .before .before .before .before .before .before .before .before .before .room-of .result))
@@ -115,7 +115,7 @@ loop-again c =
           (omega (arith, k .ensures .1, fits m))
           (λ i.
           k .ensures .0 i
-          ∙ ap (λ (t : Bool). t && not (awayIn (a .frame) (a .v) i (l .j))) (m .meet .ensures .0 i ∙ ap (λ (x : Span). among x i && among (m .before .before .before .before .before .before .reached .result) i) (m .before .columns-at .ensures))
+          ∙ ap (λ (t : Bool). t && not (awayIn (a .frame) (a .v) i (l .j))) (m .meet .ensures .0 i ∙ ap (λ (x : Span). among x i && among (m .before .before .before .before .before .before .reached .result) i) (at-level (l .los) (l .his) _ (l .j) (a .d) (m .before .columns-at .result) (m .before .columns-at .ensures) (omega arith)))
           ∙ free (openIn (l .los) (l .his) (a .d) i (l .j)) (among (m .before .before .before .before .before .before .reached .result) i) (not (awayIn (a .frame) (a .v) i (l .j))) (aside m i)),
     )
 

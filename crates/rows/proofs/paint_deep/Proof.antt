@@ -1,5 +1,5 @@
 -- `rows::paint_deep` meets its contract. Assumes nothing.
-use mathlib.Core.Path.{_≡_, refl, sym, ap, _∙_, subst}
+use mathlib.Core.Path.{_≡_, refl, sym, ap, _∙_}
 use mathlib.Core.Bool.{Bool, _&&_}
 use Prim.Native.Nat.{ℕ, _+_, _*_, _-_, _≤_, _<_, max}
 use native.Mathlib.Nat.{mul-le-mul-right}
@@ -17,9 +17,10 @@ use Rattle.filling.specs.Squares.{Drawn}
 use Rattle.spans.specs.declared.Span.{Span}
 use Rattle.spans.specs.Among.{among}
 use Rattle.raising.specs.Raised.{raised}
-use Rattle.levels.specs.Open.{placeOf, openIn}
+use Rattle.levels.specs.Open.{openIn}
 use Rattle.columns.specs.Views.{insideIn}
 use Rattle.rows.specs.Levels.{RowsReady}
+use Rattle.rows.proofs.Narrows.{at-level, read-most}
 use Rattle.rows.proofs.Turns.{and-false, no-row, one-more, all-rows}
 use Rattle.rows.proofs.Deep.{x-made, y-made, deep-x-made, deep-y-made, found-is, rows-are}
 use Rattle.rows.proofs.paint_deep.Statement.{statement}
@@ -62,7 +63,7 @@ module _ (e : tie.After-reached2 Inv-loop μ-loop) where
 clipped : (c : tie.After-meet2 Inv-loop μ-loop) → c .meet2 .result .hi ≤ start (c .before .before .before .before) .args .frame .n
 clipped c =
     let e = c .before .before .before .before in
-    let h : c .before .columns-at .result .hi ≤ start e .args .frame .n = subst (λ (x : Span). x .hi ≤ start e .args .frame .n) (sym (c .before .columns-at .ensures)) (ready e .levels .fits (placeOf (start e .args .d) (c .before .before .before .loop .j))) in
+    let h : c .before .columns-at .result .hi ≤ start e .args .frame .n = read-most (start e .args .frame .n) (start e .args .los .now) (start e .args .his .now) _ (c .before .columns-at .result) (ready e .levels) (c .before .columns-at .ensures) in
     omega (arith, c .meet2 .ensures .1 .1, h)
 
 is-small-requires : tie.Need-is-small-requires Inv-loop μ-loop
@@ -141,7 +142,7 @@ loop-again c =
     let e = c .before .before .before .before .before .before .before .before .before in
     let a = start e .args in
     let same : (i : ℕ) → among (d .result) i ≡ deepIn e i (l .j) = λ i.
-    found-is (a .v) (a .frame) (ready e .view-sized) (ready e .frame-sized) (e .reached2 .result) (a .los .now) (a .his .now) (a .d) i (l .j) (o .result) (m .result) (d .result) (aside-is e) (o .ensures) (m .ensures .0 i) (d .ensures .0 i) in (
+    found-is (a .v) (a .frame) (ready e .view-sized) (ready e .frame-sized) (e .reached2 .result) (a .los .now) (a .his .now) (a .d) i (l .j) (o .result) (m .result) (d .result) (aside-is e) (at-level (a .los .now) (a .his .now) _ (l .j) (a .d) (o .result) (o .ensures) (omega arith)) (m .ensures .0 i) (d .ensures .0 i) in (
       omega (arith, l .inv .0),
       omega (arith, l .inv .1, t .taken),
       r .kept .0 ∙ l .inv .2,

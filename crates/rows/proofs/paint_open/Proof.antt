@@ -1,5 +1,5 @@
 -- `rows::paint_open` meets its contract. Assumes nothing.
-use mathlib.Core.Path.{_≡_, refl, sym, ap, _∙_, subst}
+use mathlib.Core.Path.{_≡_, refl, sym, ap, _∙_}
 use mathlib.Core.Bool.{Bool, _&&_}
 use Prim.Native.Nat.{ℕ, _+_, _*_, _-_, _≤_, _<_, max}
 use native.Mathlib.Nat.{mul-le-mul-right}
@@ -9,8 +9,9 @@ use lib.ListN.{length, getD}
 use Rattle.filling.specs.Squares.{Drawn}
 use Rattle.spans.specs.declared.Span.{Span}
 use Rattle.spans.specs.Among.{among}
-use Rattle.levels.specs.Open.{placeOf, openIn}
+use Rattle.levels.specs.Open.{openIn}
 use Rattle.raising.specs.Raised.{raised}
+use Rattle.rows.proofs.Narrows.{at-level, read-most}
 use Rattle.rows.proofs.Turns.{no-row, one-more, all-rows}
 use Rattle.rows.proofs.paint_open.Statement.{statement}
 use Rattle.rows.proofs.paint_open.Tie as tie
@@ -40,7 +41,7 @@ raise-row-requires : tie.Need-raise-row-requires Inv-loop μ-loop
 raise-row-requires c κs =
     let s = c .before .before .before .before .before in
     let l = c .before .before .before .loop in (
-      subst (λ (r : Span). r .hi ≤ s .args .n) (sym (c .before .columns-at .ensures)) (s .pre .0 .fits (placeOf (s .args .d) (l .j))),
+      read-most (s .args .n) (s .args .los .now) (s .args .his .now) _ (c .before .columns-at .result) (s .pre .0) (c .before .columns-at .ensures),
       omega (arith, l .inv .2, s .pre .3, mul-le-mul-right (s .args .n) (below c)),
     )
 
@@ -66,7 +67,7 @@ loop-again c =
             r .ensures .cells i y i<
             ∙ ap (raised (eqb y (l .j) && among (k .result) i) 68) (l .inv .3 .cells i y i<)
             ∙ one-more (a .rows .lo) (l .j) y 68 (getD (a .map .now) (y * a .n + i) 0) (among (k .result) i) (openIn (a .los .now) (a .his .now) (a .d) i y) (l .inv .0)
-            (λ e. ap (λ (x : Span). among x i) (k .ensures) ∙ ap (λ (x : ℕ). openIn (a .los .now) (a .his .now) (a .d) i x) (sym e));
+            (λ e. ap (λ (x : Span). among x i) (at-level (a .los .now) (a .his .now) _ (l .j) (a .d) (k .result) (k .ensures) (omega arith)) ∙ ap (λ (x : ℕ). openIn (a .los .now) (a .his .now) (a .d) i x) (sym e));
       },
     )
 
