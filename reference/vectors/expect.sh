@@ -13,7 +13,16 @@ expect() {
     done < "crates/$1/args" > "crates/$1/stdout"
 }
 
+# Drawn again in either way, by rows and by quarters, a map has no other bytes.
+expect_same() {
+    while read -r name; do
+        echo "$name"
+        "$answer" map < "crates/$1/data/$name" | sed '/^(refused/!{s/.*/(rows 0) (quarters 0)/;q}'
+    done < "crates/$1/args" > "crates/$1/stdout"
+}
+
 expect sheet_cases write
 expect map_cases map
+expect_same drawing_cases
 expect point_cases probe
 expect many_point_cases probe-rows

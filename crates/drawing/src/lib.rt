@@ -295,8 +295,8 @@ fn frame_of(job: Job, row: usize) -> Frame
     Frame { n, x, y, q, reach }
 }
 
-// draws the map of a legal job, whose trees the store begins with
-pub fn draw_map(cells: &mut [u8], store: &[i32], job: Job)
+// Draws the map of a legal job, whose trees the store begins with, by rows or by quarters. Either way it is the same map.
+pub fn draw_by(cells: &mut [u8], store: &[i32], job: Job, by_rows: bool)
     requires ready { ⌜ MapReady job (now cells) (now store) ⌝ }
     ensures map { λ _. ⌜ now (cells .exit) ≡ written (mapOf job) (now (cells .entry)) ⌝ }
 {
@@ -304,10 +304,19 @@ pub fn draw_map(cells: &mut [u8], store: &[i32], job: Job)
     let mut list = no_starts();
     open_edges::list_starts(store, count, &mut list);
     let frame = frame_of(job, 0);
-    if is_by_rows(frame) {
+    if by_rows {
         draw_by_rows(cells, store, &list, count, frame);
         return;
     }
     let side = frame.n;
     draw(cells, store, &list, count, frame, 0, 0, side);
+}
+
+// Draws it in the way that is the faster one.
+pub fn draw_map(cells: &mut [u8], store: &[i32], job: Job)
+    requires ready { ⌜ MapReady job (now cells) (now store) ⌝ }
+    ensures map { λ _. ⌜ now (cells .exit) ≡ written (mapOf job) (now (cells .entry)) ⌝ }
+{
+    let by_rows = is_by_rows(frame_of(job, 0));
+    draw_by(cells, store, job, by_rows);
 }

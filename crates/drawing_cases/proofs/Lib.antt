@@ -1,0 +1,2 @@
+-- What an accepted map leaves.
+pub mod Left
