@@ -1,5 +1,5 @@
 """A cell's answer from a tree without recursion. The language asks for one proof of every cycle of calls, in a folder of proofs/ whose name begins
-with '+': neither the search nor a crate that it stands on has one."""
+with '+': neither the search and the drawing by rows nor a crate that one of them stands on has one."""
 
 import unittest
 from pathlib import Path
@@ -28,6 +28,11 @@ class Recursion(unittest.TestCase):
     def test_none_below_the_search(self):
         crates = stands_on("search")
         self.assertLessEqual({"search", "strip_tests", "nodes"}, crates)
+        self.assertEqual(cycles(crates), [])
+
+    def test_none_below_the_drawing_by_rows(self):
+        crates = stands_on("rows")
+        self.assertLessEqual({"rows", "columns", "levels"}, crates)
         self.assertEqual(cycles(crates), [])
 
     def test_the_mark_of_a_cycle_is_there(self):

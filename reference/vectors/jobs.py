@@ -1,5 +1,5 @@
 #!/usr/bin/env python3
-"""Writes the stored jobs of the test programs map_cases, point_cases and many_point_cases, a file a case, and the lists of
+"""Writes the stored jobs of the test programs map_cases, drawing_cases, point_cases and many_point_cases, a file a case, and the lists of
 their names."""
 
 import pathlib
@@ -285,6 +285,7 @@ def main():
     # With a finer grain its trees do not fit the lent store.
     cases["example_screen_fine"] = cases["example_screen"].replace("(grain 100)", "(grain 60)")
     store("map_cases", list(cases))
+    store("drawing_cases", list(cases))
     store("point_cases", for_points + ["example_bracket", "example_washer"])
     store("many_point_cases", FOR_MANY_POINTS)
 

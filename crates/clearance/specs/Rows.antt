@@ -21,7 +21,7 @@ use Rattle.model.specs.Entries.{over, treesChecks, pointChecks, pointRefusal, p
 use Rattle.model.specs.Promises.{Bounds, wholePoint, spotX, spotY, hiAt, PointsAlone, PointsTogether, PointsOrder, PointsTurned, PointsPast, PointsTrue, ReplyRoom, ReplyFills}
 use Rattle.ranges.specs.Refusals.{AllPass, all-pass, passed-all, tells, accepted-is}
 use Rattle.ranges.specs.Legal.{row-in, row-all}
-use Rattle.many_points.specs.Replies.{replies-long, ReplyOf, replies-at}
+use Rattle.many_points.specs.Replies.{by-twos, replies-long, ReplyOf, replies-at}
 use Rattle.clearance.specs.Demands.{point-holds}
 
 module _ (j : Job) (spots store reply : List ℤ) where
@@ -81,13 +81,6 @@ each-number zs n e h i l = go (eqb i (2 * (i / 2))) refl
     go false w = let o = eqb-false i (2 * (i / 2)) w in subst (λ (p : ℕ). coordinate (getD zs p (pos 0)) ≡ true) (let z : 2 * (i / 2) + 1 ≡ i = omega arith in z) (h (i / 2) (omega arith) .1)
 
 -- what 9 asks of a row, as facts
-by-twos : (spots : List ℤ) → spotsFit spots ≡ true → (1 ≤ spotsIn spots) × (spotsIn spots ≤ 256) × (length spots ≡ 2 * spotsIn spots)
-unfolding spotsFit
-by-twos spots e =
-    let f = both (leb 1 (spotsIn spots)) (leb (spotsIn spots) 256 && eqb (length spots) (2 * spotsIn spots)) e in
-    let m = both (leb (spotsIn spots) 256) (eqb (length spots) (2 * spotsIn spots)) (f .1) in
-    (le-of 1 (spotsIn spots) (f .0), le-of (spotsIn spots) 256 (m .0), eqb-true (length spots) (2 * spotsIn spots) (m .1))
-
 alone-checked : (j : Job) (x y : ℤ) (store : List ℤ) → point j x y store .refusal ≡ 0 → AllPass (pointChecks j x y store)
 unfolding point pointRefusal
 alone-checked j x y store e = passed-all (pointChecks j x y store) e

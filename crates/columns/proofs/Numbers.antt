@@ -32,7 +32,7 @@ along-of {u} {v} {x} {y} {w} m n e = called (rw (back m, back n) at e) (along-si
 pub gap-of : {u z r : ℤ} {B : ℕ} (s : ℤ) (i : ℕ) → Made u z B → r ≡ off s (bits u) (pos i) → natAbs r ≤ 1073741824 → Made r (off s z (pos i)) 1073741824
 gap-of {u} {z} {r} s i m e h = let f : r ≡ off s z (pos i) = rw (back m) at e in called f (subst (λ t. natAbs t ≤ 1073741824) f h) tt
 
--- ---- steps above 0
+-- ---- steps above 0, with any logarithm that is theirs
 nonneg-times : (a b : ℤ) → T (nonNeg a) → T (nonNeg b) → T (nonNeg (a *ℤ b))
 nonneg-times (pos m) (pos n) s t = tt
 nonneg-times (pos m) (negsuc n) s t = absurd t
@@ -41,12 +41,12 @@ nonneg-times (negsuc m) b s t = absurd s
 above-times : (a b : ℤ) → 0 < natAbs a → 0 < natAbs b → 0 < natAbs (a *ℤ b)
 above-times a b h k = omega (arith, natAbs-mul a b, mul-le-mul h k)
 
-pub step-sized : (u a b : ℤ) → natAbs u ≤ 4611686018427387904 → T (nonNeg a) → T (nonNeg b) → 0 < natAbs a → 0 < natAbs b → natAbs (a *ℤ b) ≤ 1152921504606846976 → StepSized u (a *ℤ b)
-step-sized u a b h s t k l m = record { v-size = h; d-nonneg = nonneg-times a b s t; d-above = above-times a b k l; d-size = m }
+pub step-sized : (u a b : ℤ) (k : ℕ) → natAbs u ≤ 4611686018427387904 → T (nonNeg a) → T (nonNeg b) → 0 < natAbs a → 0 < natAbs b → natAbs (a *ℤ b) ≤ 1152921504606846976 → (k < 64 → natAbs (a *ℤ b) ≡ 2 ^ k) → StepSized u (record { d = a *ℤ b; k = k })
+step-sized u a b k h s t i j m p = record { v-size = h; d-nonneg = nonneg-times a b s t; d-above = above-times a b i j; d-size = m; power = p }
 
 -- a cell's side is one
-pub side-sized : (f : Frame) → FrameSized f → (u : ℤ) → natAbs u ≤ 4611686018427387904 → StepSized u (pos 2 *ℤ f .q)
-side-sized f s u h = step-sized u (pos 2) (f .q) h tt (s .q-nonneg) (omega arith) (s .q-above) (omega (arith, side-made f s .within))
+pub side-sized : (f : Frame) → FrameSized f → (u : ℤ) → natAbs u ≤ 4611686018427387904 → StepSized u (record { d = pos 2 *ℤ f .q; k = f .k })
+side-sized f s u h = step-sized u (pos 2) (f .q) (f .k) h tt (s .q-nonneg) (omega arith) (s .q-above) (omega (arith, side-made f s .within)) (λ h. natAbs-mul (pos 2) (f .q) ∙ s .k-is)
 
 -- ---- of a view
 module _ (v : View) (s : ViewSized v) where

@@ -1,7 +1,7 @@
 -- The sizes within which no step leaves 64 bits. Assumes nothing.
 use mathlib.Core.Path.{_≡_}
 use mathlib.Core.Bool.{false}
-use Prim.Native.Nat.{_*_, _≤_, _<_}
+use Prim.Native.Nat.{_*_, _≤_, _<_, _^_}
 use lib.Dec.{T}
 use lib.IntN.{ℤ, natAbs, _+ℤ_}
 use lib.Signed.{nonNeg}
@@ -21,6 +21,7 @@ pub record FrameSized (f : Frame) : Type 0 where
   pub q-above : 0 < natAbs (f .q)
   pub q-size : natAbs (f .q) ≤ 8388608
   pub side-size : f .n * natAbs (f .q) ≤ 8388608
+  pub k-is : 2 * natAbs (f .q) ≡ 2 ^ f .k
   pub reach-sized : ReachSized (f .reach)
 
 -- a strip's centre is at most 2^29 from 0, and the first cell's middle at most 2^25 + 2^23

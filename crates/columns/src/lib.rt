@@ -5,6 +5,7 @@ use nodes::Y;
 use nodes::extent_at;
 use rounding::abs;
 use spans::Span;
+use spans::Step;
 ghost use mathlib.Core.Path.{_≡_};
 ghost use mathlib.Core.Bool.{not, _&&_};
 ghost use Prim.Native.Nat.{ℕ, _-_, _≤_, _<_};
@@ -22,13 +23,14 @@ ghost use Rattle.row_laws.specs.Slanted.{alongQ};
 ghost use Rattle.columns.specs.Views.{viewOf, awayIn, insideIn, testAt, acrossAt};
 ghost use Rattle.columns.specs.Limits.{FrameSized, ViewSized, RoomFor};
 
-// Where rows of a map lie: cells a row, the lower left corner of the first row and half a smallest cell's side in fine units, and the reach in
-// fine units.
+// Where rows of a map lie: cells a row, the lower left corner of the first row and half a smallest cell's side in fine units, the logarithm of
+// the whole side, and the reach in fine units.
 pub struct Frame {
     pub n: usize,
     pub x: i64,
     pub y: i64,
     pub q: i64,
+    pub k: usize,
     pub reach: i64,
 }
 
@@ -86,7 +88,8 @@ pub fn reached(z: i64, e: i64, frame: Frame) -> Span
     requires sizes { ⌜ (natAbs z ≤ 578813952) × (natAbs e ≤ 1073741824) × FrameSized frame ⌝ }
     ensures near { λ c. ⌜ ((i : ℕ) → among c i ≡ leZ (absℤ (off (frame .q) z (pos i))) e) ⌝ }
 {
-    spans::around(z, e, 2 * frame.q)
+    let d = 2 * frame.q;
+    spans::around(z, e, Step { d, k: frame.k })
 }
 
 // ---- a walk in from both ends, while the strip is apart or, for the deep columns, not inside
@@ -191,7 +194,7 @@ fn across(v: View, frame: Frame, room: i64, w: i64, c: Span) -> Span
     let aq = abs(v.q);
     let u = w * along(v.p, v.q) + v.x * aq;
     let d = 2 * frame.q * aq;
-    spans::meet(c, spans::around(u, room, d))
+    spans::meet(c, spans::around(u, room, Step { d, k: 64 }))
 }
 
 // ---- both

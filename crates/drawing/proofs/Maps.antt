@@ -4,7 +4,7 @@ use mathlib.Core.List.{List, _++_}
 use Prim.Native.Nat.{ℕ, _+_, _-_, _*_, _/_, _%_, _^_, _≤_, _<_, zero-le}
 use native.Mathlib.Nat.{le-trans, mul-comm, mul-assoc, mul-le-mul-right, div-add-mod', mod-lt, le-div-iff-mul-le}
 use native.Mathlib.Omega.{arith}
-use lib.Pow.{pow-mono, pow-pos}
+use lib.Pow.{pow-mono, pow-pos, pow-add}
 use lib.IntN.{ℤ, pos, negsuc, natAbs, _+ℤ_, _*ℤ_}
 use lib.Signed.{mag}
 use mir.Syntax.{w32, w64}
@@ -112,6 +112,7 @@ frame-sized j good row h =
       q-above = omega (arith, pow-pos (cellLog j));
       q-size = unit-size j good;
       side-size = side-size j good;
+      k-is = doubled (2 ^ cellLog j) ∙ sym (pow-add 2 (cellLog j) 4);
       reach-sized = record {
         r-size = omega (arith, natAbs-mul (pos 16) (j .reach), s .reach .most);
         r-above = omega (arith, natAbs-mul (pos 16) (j .reach), s .reach .least);
@@ -121,6 +122,9 @@ frame-sized j good row h =
   where
     twice : (a b : ℕ) → 2 * a * b ≡ 2 * (a * b)
     twice a b = mul-assoc 2 a b
+
+    doubled : (b : ℕ) → 2 * (8 * b) ≡ b * 16
+    doubled b = omega arith
 
 -- ---- the trees
 module _ (j : Job) (cells : List ℕ) (store : List ℤ) (h : MapReady j cells store) where

@@ -1,6 +1,6 @@
 -- What a block of the map asks, and the letter of one smallest cell by its own answer. Assumes nothing.
 use mathlib.Core.List.{List}
-use Prim.Native.Nat.{ℕ, _*_, _^_}
+use Prim.Native.Nat.{ℕ, _+_, _*_, _^_}
 use lib.IntN.{pos, _+ℤ_, _*ℤ_}
 use Rattle.model.specs.declared.Job.{Job}
 use Rattle.model.specs.Jobs.{cellLog}
@@ -18,6 +18,7 @@ frameOf j row = record {
   x = pos 16 *ℤ j .x;
   y = pos 16 *ℤ j .y +ℤ pos (2 * row) *ℤ pos (8 * 2 ^ cellLog j);
   q = pos (8 * 2 ^ cellLog j);
+  k = cellLog j + 4;
   reach = pos 16 *ℤ j .reach;
 }
 

@@ -292,7 +292,15 @@ fn frame_of(job: Job, row: usize) -> Frame
     let x = fine(job.x);
     let y = row_at(fine(job.y), q, row);
     let reach = fine(job.reach);
-    Frame { n, x, y, q, reach }
+    let k = exponent(job.m) + 4;
+    Frame {
+        n,
+        x,
+        y,
+        q,
+        k,
+        reach,
+    }
 }
 
 // Draws the map of a legal job, whose trees the store begins with, by rows or by quarters. Either way it is the same map.

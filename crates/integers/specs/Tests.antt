@@ -25,6 +25,14 @@ pub T-both : (a b : Bool) → T (a && b) → T a × T b
 T-both true b t = (tt, t)
 T-both false b t = absurd t
 
+pub T-pair : (a b : Bool) → T a → T b → T (a && b)
+T-pair true b s t = t
+T-pair false b s t = absurd s
+
+pub and-false : (a : Bool) → (a && false) ≡ false
+and-false true = refl
+and-false false = refl
+
 pub negated : (b : Bool) → not b ≡ true → b ≡ false
 negated false e = refl
 negated true e = sym e

@@ -64,7 +64,6 @@ pub fn length(p: usize, q: usize) -> usize
     let v = p * p + q * q;
     let first = first_guess(p, q);
     let second = better(first, v);
-    let third = better(second, v);
-    let guess = better(third, v);
+    let guess = better(second, v);
     down_from(up_from(cap(guess), v), v)
 }

@@ -6,7 +6,7 @@ use Prim.Native.Nat.{ℕ, _+_, _*_, _≤_, _<_}
 use native.Mathlib.Omega.{arith}
 use borrow.Author.Tests.{ltb-true, ltb-false, le-ltb}
 use lib.Dec.{T, leb, ltb, leb→le, ltb→lt}
-use Rattle.integers.specs.Tests.{T-both}
+use Rattle.integers.specs.Tests.{T-both, and-false}
 use lib.ListN.{length, getD}
 use Rattle.spans.specs.declared.Span.{Span}
 use Rattle.spans.specs.Among.{among}
@@ -43,10 +43,6 @@ pub record Levels (n : ℕ) (los his : List ℕ) : Type 0 where
 
 none-first : (i : ℕ) → (leb 0 i && ltb i 0) ≡ false
 none-first i = ap (λ t. leb 0 i && t) (le-ltb i 0 (omega arith)) ∙ and-false (leb 0 i)
-  where
-    and-false : (t : Bool) → (t && false) ≡ false
-    and-false true = refl
-    and-false false = refl
 
 -- a stretch as it is kept: an empty one is kept as the first such
 abbrev pub normalOf : Span → Span

@@ -1,15 +1,15 @@
 -- What the checks of a row of points have told at each step, and what an accepted row has. Assumes nothing.
 use mathlib.Core.Path.{_≡_, sym, _∙_}
-use mathlib.Core.Bool.{true, false, _&&_}
+use mathlib.Core.Bool.{true, false}
 use mathlib.Core.List.{List, _++_}
 use mathlib.Core.Logic.{inr}
 use Prim.Native.Nat.{ℕ, _*_, _≤_, _<_}
 use native.Mathlib.Omega.{arith}
-use lib.Dec.{leb, eqb}
+use lib.Dec.{leb}
 use lib.IntN.{ℤ}
 use lib.ListN.{length}
 use borrow.Author.Tests.{le-leb, lt-leb, eq-eqb}
-use Rattle.integers.specs.Tests.{both, le-of}
+use Rattle.integers.specs.Tests.{le-of}
 use Rattle.model.specs.declared.Job.{Job}
 use Rattle.model.specs.Refusals.{Checks, check, first, range, sheaf, space, stranger}
 use Rattle.model.specs.Jobs.{coordinates, own, judgeWith}
@@ -35,10 +35,6 @@ module _ (spots : List ℤ) where
   pub all-fit : 1 ≤ spotsIn spots → spotsIn spots ≤ 256 → length spots ≡ 2 * spotsIn spots → true ≡ spotsFit spots
   unfolding spotsFit
   all-fit h k e = sym (rw (le-leb 1 (spotsIn spots) h, le-leb (spotsIn spots) 256 k, eq-eqb (length spots) (2 * spotsIn spots) e))
-
-pub few-points : (spots : List ℤ) → spotsFit spots ≡ true → spotsIn spots ≤ 256
-unfolding spotsFit
-few-points spots e = le-of (spotsIn spots) 256 (both (leb (spotsIn spots) 256) (eqb (length spots) (2 * spotsIn spots)) (both (leb 1 (spotsIn spots)) (leb (spotsIn spots) 256 && eqb (length spots) (2 * spotsIn spots)) e .1) .0)
 
 -- ---- the checks in their order: each step leaves those that come after it
 module _ (j : Job) (spots store reply : List ℤ) where

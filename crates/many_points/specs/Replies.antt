@@ -2,17 +2,28 @@
 -- one point. Assumes nothing.
 use mathlib.Core.Path.{_≡_, refl, sym, ap, ap₂, _∙_}
 use mathlib.Core.List.{List, [], _∷_}
-use mathlib.Core.Bool.{Bool, true, false, cond}
+use mathlib.Core.Bool.{Bool, true, false, cond, _&&_}
 use Prim.Native.Nat.{ℕ, zero, suc, _+_, _*_, _≤_, _<_}
 use native.Mathlib.Omega.{arith}
+use borrow.Author.Tests.{eqb-true}
+use lib.Dec.{leb, eqb}
 use lib.IntN.{ℤ, pos}
 use lib.ListN.{length, getD}
+use Rattle.integers.specs.Tests.{both, le-of}
 use Rattle.model.specs.Strips.{Strip}
 use Rattle.model.specs.Trees.{Tree}
 use Rattle.model.specs.Sheets.{same}
 use Rattle.model.specs.Distance.{leaves, least, lo, hi, firstAt, named}
-use Rattle.model.specs.Entries.{spotsIn, replies}
+use Rattle.model.specs.Entries.{spotsIn, spotsFit, replies}
 use Rattle.model.specs.Promises.{spotX, spotY, loAt, hiAt, namedAt}
+
+-- ---- a row that fits
+pub by-twos : (spots : List ℤ) → spotsFit spots ≡ true → (1 ≤ spotsIn spots) × (spotsIn spots ≤ 256) × (length spots ≡ 2 * spotsIn spots)
+unfolding spotsFit
+by-twos spots e =
+    let f = both (leb 1 (spotsIn spots)) (leb (spotsIn spots) 256 && eqb (length spots) (2 * spotsIn spots)) e in
+    let m = both (leb (spotsIn spots) 256) (eqb (length spots) (2 * spotsIn spots)) (f .1) in
+    (le-of 1 (spotsIn spots) (f .0), le-of (spotsIn spots) 256 (m .0), eqb-true (length spots) (2 * spotsIn spots) (m .1))
 
 -- ---- three numbers a point
 pub replies-long : (ts : List Tree) (spots : List ℤ) → length (replies ts spots) ≡ 3 * spotsIn spots

@@ -12,7 +12,7 @@ use Rattle.integers.specs.Order.{_≼_, _⊠_, gap, pos-≼}
 use Rattle.integers.specs.Omega.{zarith}
 use Rattle.integers.specs.Inequalities.{from, ≼-trans}
 use Rattle.integers.specs.Absolute.{absℤ, abs-is, ≼-abs, neg≼-abs}
-use Rattle.integers.specs.Tests.{alike, T-both}
+use Rattle.integers.specs.Tests.{alike, T-both, T-pair}
 use Rattle.strip_tests.specs.PlainTests.{insideBy, apartBy}
 use Rattle.inheritance.specs.Blocks.{middle}
 use Rattle.row_laws.specs.Growth.{apart-farther, inside-nearer}
@@ -89,10 +89,6 @@ pub record Walked (P : ℕ → Bool) (lo hi l h : ℕ) : Type 0 where
   pub first : l < h → T (P l)
   pub last : l < h → T (P (h - 1))
 
-pair : (a b : Bool) → T a → T b → T (a && b)
-pair true b s t = t
-pair false b s t = absurd s
-
 -- they are just those in which it holds
 pub walked-is : (P : ℕ → Bool) → SideBySide P → (lo hi l h : ℕ) → Walked P lo hi l h → (i : ℕ) → (leb l i && ltb i h) ≡ (leb lo i && ltb i hi && P i)
 walked-is P side lo hi l h w i = alike (leb l i && ltb i h) (leb lo i && ltb i hi && P i) there back
@@ -106,7 +102,7 @@ walked-is P side lo hi l h w i = alike (leb l i && ltb i h) (leb lo i && ltb i h
         let d : i < hi = omega (arith, w .ends) in
         let e : i ≤ h - 1 = omega arith in
         let f : l < h = omega arith in
-        pair (leb lo i && ltb i hi) (P i) (pair (leb lo i) (ltb i hi) (le→leb lo i c) (lt→ltb i hi d)) (side .between l i (h - 1) a e (w .first f) (w .last f))
+        T-pair (leb lo i && ltb i hi) (P i) (T-pair (leb lo i) (ltb i hi) (le→leb lo i c) (lt→ltb i hi d)) (side .between l i (h - 1) a e (w .first f) (w .last f))
 
     from-left : lo ≤ i → T (P i) → l ≤ i
     from-left c t = elim (decLe l i) [ yes p ↦ p | no p ↦ absurd (w .left i c (omega arith) t) ]
@@ -119,4 +115,4 @@ walked-is P side lo hi l h w i = alike (leb l i && ltb i h) (leb lo i && ltb i h
         let p = T-both (leb lo i && ltb i hi) (P i) t in
         let q = T-both (leb lo i) (ltb i hi) (p .0) in
         let a : l ≤ i = from-left (leb→le lo i (q .0)) (p .1) in
-        pair (leb l i) (ltb i h) (le→leb l i a) (lt→ltb i h (to-right a (ltb→lt i hi (q .1)) (p .1)))
+        T-pair (leb l i) (ltb i h) (le→leb l i a) (lt→ltb i h (to-right a (ltb→lt i hi (q .1)) (p .1)))

@@ -9,6 +9,7 @@ use lib.Dec.{leb, ltb, eqb}
 use lib.IntN.{ℤ, pos, natAbs, _+ℤ_}
 use lib.ListN.{length, getD, set, replicate, drop, length-set}
 use lib.Seq.{getD-set-same, getD-set-other}
+use Rattle.integers.specs.Tests.{and-false}
 use Rattle.model.specs.Trees.{Tree}
 use Rattle.model.specs.Store.{flatten, width, size}
 use Rattle.model.specs.Explore.{explore}
@@ -25,7 +26,6 @@ use Rattle.levels.specs.Open.{Levels, openIn}
 use Rattle.rows.specs.Weights.{weight}
 use Rattle.rows.specs.Waiting.{depth, ShallowTree}
 use Rattle.rows.specs.Levels.{AllOpen, Narrowed}
-use Rattle.rows.proofs.Turns.{and-false}
 use Rattle.rows.proofs.Walks.{State, end, rowsIn, openAt, Next, next, past, past-leaf, into}
 use lib.Signed.{leZ}
 use Rattle.integers.specs.Absolute.{absℤ}

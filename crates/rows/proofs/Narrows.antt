@@ -7,7 +7,7 @@ use native.Mathlib.Decide.{decLe}
 use native.Mathlib.Omega.{arith}
 use lib.Dec.{T, leb, ltb, leb→le, ltb→lt, lt→ltb}
 use lib.ListN.{getD}
-use Rattle.integers.specs.Tests.{T-both}
+use Rattle.integers.specs.Tests.{T-both, T-pair}
 use Rattle.spans.specs.declared.Span.{Span}
 use Rattle.spans.specs.Among.{among}
 use Rattle.levels.specs.Open.{Long, Small, Levels, placeOf, spanIn, openIn, normalOf, normal-same, normal-most}
@@ -15,7 +15,7 @@ use Rattle.columns.specs.declared.Frame.{Frame}
 use Rattle.columns.specs.declared.View.{View}
 use Rattle.columns.specs.Views.{awayIn}
 use Rattle.rows.specs.Levels.{Narrowed}
-use Rattle.rows.proofs.Tests.{pair, guarded, regroup}
+use Rattle.rows.proofs.Tests.{guarded, regroup}
 
 -- a stretch that was read at place p, which is that of row j at level d
 pub at-level : (los his : List ℕ) (p j d : ℕ) (c : Span) → c ≡ record { lo = getD los p 0; hi = getD his p 0 } → p ≡ placeOf d j → c ≡ spanIn los his d j
@@ -73,7 +73,7 @@ module _ (f : Frame) (v : View) (d a j : ℕ) (los₀ his₀ los his los′ his�
         let l : y < j + 1 = ltb→lt y (j + 1) (p .1) in
         elim (decLe j y) [
           | yes q ↦ subst (λ (z : ℕ). openIn los′ his′ (suc d) i z ≡ (openIn los₀ his₀ d i z && not (awayIn f v i z))) (omega arith) (here i)
-          | no q ↦ ap (λ (c : Span). among c i) (before y (omega arith)) ∙ N .kept i y (pair (leb a y) (ltb y j) (p .0) (lt→ltb y j (omega arith)))
+          | no q ↦ ap (λ (c : Span). among c i) (before y (omega arith)) ∙ N .kept i y (T-pair (leb a y) (ltb y j) (p .0) (lt→ltb y j (omega arith)))
         ];
     same = λ k y h l. lower k y h l ∙ N .same k y h l;
   }

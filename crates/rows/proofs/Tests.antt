@@ -3,10 +3,6 @@ use mathlib.Core.Path.{_≡_, refl, sym, ap, _∙_, subst}
 use mathlib.Core.Bool.{Bool, true, false, not, _&&_}
 use lib.Dec.{T}
 
-pub pair : (a b : Bool) → T a → T b → T (a && b)
-pair true b s t = t
-pair false b s t = absurd s
-
 -- a test that the last one brings is free
 pub free : (a c t : Bool) → (T t → T c) → (a && c && t) ≡ (a && t)
 free true true t f = refl

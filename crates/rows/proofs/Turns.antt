@@ -1,18 +1,13 @@
 -- A loop over rows: the rows from a to below j are done. Assumes nothing.
 use mathlib.Core.Path.{_≡_, refl, ap, _∙_}
-use mathlib.Core.Bool.{Bool, true, false, _&&_}
+use mathlib.Core.Bool.{Bool, false, _&&_}
 use Prim.Native.Nat.{ℕ, _+_, _≤_, _<_, max}
 use native.Mathlib.Decide.{decLe}
 use native.Mathlib.Omega.{arith}
 use borrow.Author.Tests.{lt-ltb, le-ltb, le-leb, lt-leb, ne-eqb, eq-eqb}
 use lib.Dec.{leb, ltb, eqb, leb→le, ltb→lt, lt→ltb}
-use Rattle.integers.specs.Tests.{alike, T-both}
+use Rattle.integers.specs.Tests.{alike, T-both, T-pair, and-false}
 use Rattle.raising.specs.Raised.{raised}
-use Rattle.rows.proofs.Tests.{pair}
-
-pub and-false : (t : Bool) → (t && false) ≡ false
-and-false true = refl
-and-false false = refl
 
 -- none yet
 pub no-row : (a y b x : ℕ) (u : Bool) → raised (leb a y && ltb y a && u) b x ≡ x
@@ -37,5 +32,5 @@ one-more a j y b x t u h f = elim (decLe j y) [
 -- all of them
 pub all-rows : (lo hi j y : ℕ) → lo ≤ j → j ≤ max hi lo → hi ≤ j → (leb lo y && ltb y j) ≡ (leb lo y && ltb y hi)
 all-rows lo hi j y h k l = alike (leb lo y && ltb y j) (leb lo y && ltb y hi)
-    (λ t. let p = T-both (leb lo y) (ltb y j) t in let c : lo ≤ y = leb→le lo y (p .0) in let d : y < j = ltb→lt y j (p .1) in pair (leb lo y) (ltb y hi) (p .0) (lt→ltb y hi (omega arith)))
-    (λ t. let p = T-both (leb lo y) (ltb y hi) t in let d : y < hi = ltb→lt y hi (p .1) in pair (leb lo y) (ltb y j) (p .0) (lt→ltb y j (omega arith)))
+    (λ t. let p = T-both (leb lo y) (ltb y j) t in let c : lo ≤ y = leb→le lo y (p .0) in let d : y < j = ltb→lt y j (p .1) in T-pair (leb lo y) (ltb y hi) (p .0) (lt→ltb y hi (omega arith)))
+    (λ t. let p = T-both (leb lo y) (ltb y hi) t in let d : y < hi = ltb→lt y hi (p .1) in T-pair (leb lo y) (ltb y j) (p .0) (lt→ltb y j (omega arith)))

@@ -15,20 +15,17 @@ use Rattle.integers.specs.Omega.{zarith}
 use Rattle.integers.specs.Inequalities.{from, _&_, by-contra, ≼-trans}
 use Rattle.integers.specs.Absolute.{absℤ, abs-≼}
 use Rattle.integers.specs.Within.{Within, of-abs}
-use Rattle.integers.specs.Tests.{alike, T-both, le-true, true-le}
+use Rattle.integers.specs.Tests.{alike, T-both, T-pair, le-true, true-le}
 use Rattle.integers.specs.Signed.{Made, bits, back}
+use Rattle.spans.specs.declared.Step.{Step}
 use Rattle.spans.specs.Among.{StepSized}
 
 -- ---- two tests at once
-both-hold : (s t : Bool) → T s → T t → T (s && t)
-both-hold true t p q = q
-both-hold false t p q = p
-
 pub first-tells : (s t : Bool) → (T s → T t) → s ≡ (s && t)
-first-tells s t f = alike s (s && t) (λ p. both-hold s t p (f p)) (λ p. T-both s t p .0)
+first-tells s t f = alike s (s && t) (λ p. T-pair s t p (f p)) (λ p. T-both s t p .0)
 
 pub second-tells : (s t : Bool) → (T t → T s) → t ≡ (s && t)
-second-tells s t f = alike t (s && t) (λ p. both-hold s t (f p) p) (λ p. T-both s t p .1)
+second-tells s t f = alike t (s && t) (λ p. T-pair s t (f p) p) (λ p. T-both s t p .1)
 
 pub sorted : (p q s t : Bool) → ((p && q) && (s && t)) ≡ ((p && s) && (q && t))
 sorted true true s t = refl
@@ -58,7 +55,7 @@ from-past r i v x e = alike (leb r i) (leZ v x)
 pub near-law : (x u e : ℤ) → (leZ (u -ℤ e) x && leZ x (u +ℤ e)) ≡ leZ (absℤ (x -ℤ u)) e
 near-law x u e = alike (leZ (u -ℤ e) x && leZ x (u +ℤ e)) (leZ (absℤ (x -ℤ u)) e)
     (λ t. let b = T-both (leZ (u -ℤ e) x) (leZ x (u +ℤ e)) t in near (leZ-yes (b .0)) (leZ-yes (b .1)) .le)
-    (λ t. let w = of-abs (leZ-yes t) in both-hold (leZ (u -ℤ e) x) (leZ x (u +ℤ e)) (low w .le) (high w .le))
+    (λ t. let w = of-abs (leZ-yes t) in T-pair (leZ (u -ℤ e) x) (leZ x (u +ℤ e)) (low w .le) (high w .le))
   where
     near : u -ℤ e ≼ x → x ≼ u +ℤ e → absℤ (x -ℤ u) ≼ e
     near h k = abs-≼ (x -ℤ u) e
@@ -81,14 +78,14 @@ none-up-to n (pos k) i t = le-ltb i 0 (omega arith)
 none-up-to n (negsuc k) i t = absurd t
 
 -- ---- sizes: another place, the one before, and what the machine holds of them
-pub resized : {v d : ℤ} (w : ℤ) → natAbs w ≤ 4611686018427387904 → StepSized v d → StepSized w d
-resized w h s = record { v-size = h; d-nonneg = s .d-nonneg; d-above = s .d-above; d-size = s .d-size }
+pub resized : {v : ℤ} {s : Step} (w : ℤ) → natAbs w ≤ 4611686018427387904 → StepSized v s → StepSized w s
+resized w h k = record { v-size = h; d-nonneg = k .d-nonneg; d-above = k .d-above; d-size = k .d-size; power = k .power }
 
-pub before : (v d : ℤ) (n : ℕ) → v ≡ pos n → 0 < n → StepSized v d → T (nonNeg (v -ℤ pos 1)) × StepSized (v -ℤ pos 1) d
-before v d n e h s = rw (e, less) (tt, resized (pos (n - 1)) (omega (arith, rw e at (s .v-size))) s)
+pub before : (v : ℤ) (s : Step) (n : ℕ) → v ≡ pos n → 0 < n → StepSized v s → T (nonNeg (v -ℤ pos 1)) × StepSized (v -ℤ pos 1) s
+before v s n e h k = rw (e, less) (tt, resized (pos (n - 1)) (omega (arith, rw e at (k .v-size))) k)
   where
     less : pos n -ℤ pos 1 ≡ pos (n - 1)
     less = rw (le-ltb n 1 h) refl
 
-pub sized : {u v y d : ℤ} {A B : ℕ} → Made u v A → Made y d B → T (nonNeg v) → StepSized v d → T (nonNeg (bits u)) × StepSized (bits u) (bits y)
-sized m n t s = rw (back m, back n) (t, s)
+pub sized : {u v : ℤ} {s : Step} {A : ℕ} → Made u v A → T (nonNeg v) → StepSized v s → T (nonNeg (bits u)) × StepSized (bits u) s
+sized m t k = rw (back m) (t, k)

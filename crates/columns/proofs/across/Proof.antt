@@ -68,10 +68,10 @@ module _ (e : tie.After-along) where
   d : Made (bits (toZ w64 2 *ℤ bits (f start .q)) *ℤ bits (e .before .before .before .abs .result)) (pos 2 *ℤ f start .q *ℤ absℤ (v start .q)) 9007199254740992
   d = times (side-made (f start) (start .pre .1)) (aq (e .before .before .before)) tt
 
-  step : StepSized (shared (start .args .w) (v start .x) (v start .p) (v start .q)) (pos 2 *ℤ f start .q *ℤ absℤ (v start .q))
+  step : StepSized (shared (start .args .w) (v start .x) (v start .p) (v start .q)) (record { d = pos 2 *ℤ f start .q *ℤ absℤ (v start .q); k = 64 })
   step =
       let z = side-sized (f start) (start .pre .1) (pos 0) (omega arith) in
-      step-sized (shared (start .args .w) (v start .x) (v start .p) (v start .q)) (pos 2 *ℤ f start .q) (absℤ (v start .q)) (omega (arith, u .within)) (z .d-nonneg) (abs-is-nonneg (v start .q)) (z .d-above) (abs-above (v start .q) (q-not (e .before .before .before .before .before))) (omega (arith, d .within))
+      step-sized (shared (start .args .w) (v start .x) (v start .p) (v start .q)) (pos 2 *ℤ f start .q) (absℤ (v start .q)) 64 (omega (arith, u .within)) (z .d-nonneg) (abs-is-nonneg (v start .q)) (z .d-above) (abs-above (v start .q) (q-not (e .before .before .before .before .before))) (omega (arith, d .within)) (λ h. absurd (omega (arith, h)))
 
 returns : tie.Need-returns
 returns c =

@@ -13,8 +13,8 @@ module _ (c : tie.Start) where
   e : Made (c .args .e) (c .args .e) 1073741824
   e = arg (c .pre .1) (c .fits .e)
 
-mul-around : tie.Need-mul-around
-mul-around c = side-made (c .before .before .args .frame) (c .before .before .pre .2) .fits
+mul-d : tie.Need-mul-d
+mul-d c = side-made (c .before .before .args .frame) (c .before .before .pre .2) .fits
 
 around-requires : tie.Need-around-requires
 around-requires c κs =
@@ -26,4 +26,4 @@ returns : tie.Need-returns
 returns c = let s = c .before .before .before in rw (back (z s), back (e s), back (side-made (s .args .frame) (s .pre .2))) at (c .around .ensures)
 
 pub reached-spec : {M : Type 1} → statement M
-reached-spec = tie.close (tie.spec mul-around around-requires returns)
+reached-spec = tie.close (tie.spec mul-d around-requires returns)

@@ -1,6 +1,6 @@
 -- `drawing::frame_of` meets its contract. Assumes nothing.
-use mathlib.Core.Path.{_≡_, ap₂, _∙_}
-use Prim.Native.Nat.{ℕ, _*_, _^_, _<_}
+use mathlib.Core.Path.{_≡_, ap, ap₂, _∙_}
+use Prim.Native.Nat.{ℕ, _+_, _*_, _^_, _<_}
 use native.Mathlib.Omega.{arith}
 use borrow.Author.Needs.{needs}
 use lib.IntN.{ℤ, pos, _+ℤ_, _*ℤ_}
@@ -10,7 +10,7 @@ use mir.Val.{toZ, ofZ}
 use Rattle.integers.specs.Signed.{natAbs-mul, read32, read64}
 use Rattle.model.specs.Jobs.{cellLog}
 use Rattle.columns.specs.declared.Frame.{Frame}
-use Rattle.drawing.proofs.Maps.{job-numbers, columns-few, row-size, fine-back}
+use Rattle.drawing.proofs.Maps.{job-numbers, columns-few, row-size, log-back, fine-back}
 use Rattle.drawing.proofs.frame_of.Statement.{statement}
 use Rattle.drawing.proofs.frame_of.Tie as tie
 
@@ -67,26 +67,49 @@ fine-requires-3 c κs =
     let g : mag (s .args .job .reach) < 2 ^ 31 = search needs in
     rw (read32 (s .args .job .reach) g) (job-numbers (s .args .job) (s .pre .0) .reach .most)
 
-same : {a b : ℕ} {x y q r x′ y′ q′ r′ : ℤ} → a ≡ b → x ≡ x′ → y ≡ y′ → q ≡ q′ → r ≡ r′ → _≡_ {A = Frame} (record { n = a; x = x; y = y; q = q; reach = r }) (record { n = b; x = x′; y = y′; q = q′; reach = r′ })
-same e f g h k = cc
+reach-is : (c : tie.After-fine3) → toZ w64 (ofZ w64 (c .fine3 .result)) ≡ pos 16 *ℤ start (c .before .before .before) .args .job .reach
+reach-is c =
+    let z = start (c .before .before .before) .args .job .reach in
+    let f : mag (c .fine3 .result) < 2 ^ 63 = search needs in
+    let g : mag z < 2 ^ 31 = search needs in
+    fine-back (c .fine3 .result) z (c .fine3 .ensures) f g
+
+exponent-requires : tie.Need-exponent-requires
+exponent-requires c κs =
+    let s = c .before .before .before .before .before .before .before .before .before .before in
+    let g : mag (s .args .job .m) < 2 ^ 31 = search needs in
+    let m = job-numbers (s .args .job) (s .pre .0) .cell in
+    rw (read32 (s .args .job .m) g) (m .nonneg, m .most)
+
+m-is : (c : tie.After-exponent) → c .exponent .result ≡ cellLog (c .before .before .before .before .before .before .before .before .before .before .before .args .job)
+m-is c =
+    let j = c .before .before .before .before .before .before .before .before .before .before .before .args .job in
+    let g : mag (j .m) < 2 ^ 31 = search needs in
+    log-back (c .exponent .result) (j .m) (c .exponent .ensures) g
+
+add-k : tie.Need-add-k
+add-k c = let s = c .before .before .before .before .before .before .before .before .before .before .before in omega (arith, m-is c, job-numbers (s .args .job) (s .pre .0) .cell .most)
+
+same : {a b k l : ℕ} {x y q r x′ y′ q′ r′ : ℤ} → a ≡ b → x ≡ x′ → y ≡ y′ → q ≡ q′ → k ≡ l → r ≡ r′ → _≡_ {A = Frame} (record { n = a; x = x; y = y; q = q; k = k; reach = r }) (record { n = b; x = x′; y = y′; q = q′; k = l; reach = r′ })
+same d e f g h i = cc
 
 returns : tie.Need-returns
 returns c =
-    let a = c .before .before .before in
+    let b = c .before .before in
+    let a = b .before .before .before in
     let s = start a in
     let x = a .before .before .fine in
-    let r = c .before .before .row-at in
+    let r = b .before .before .row-at in
     let fx : mag (x .result) < 2 ^ 63 = search needs in
     let gx : mag (s .args .job .x) < 2 ^ 31 = search needs in
     let fy : mag (r .result) < 2 ^ 63 = search needs in
-    let fr : mag (c .fine3 .result) < 2 ^ 63 = search needs in
-    let gr : mag (s .args .job .reach) < 2 ^ 31 = search needs in
     same
     (a .before .before .before .before .before .columns-of .ensures .0)
     (fine-back (x .result) (s .args .job .x) (x .ensures) fx gx)
     (read64 (r .result) fy ∙ r .ensures ∙ ap₂ (λ y q. y +ℤ pos (2 * s .args .row) *ℤ q) (y-is a) (q-is a))
     (q-is a)
-    (fine-back (c .fine3 .result) (s .args .job .reach) (c .fine3 .ensures) fr gr)
+    (ap (λ k. k + 4) (m-is c))
+    (reach-is b)
 
 pub frame-of-spec : {M : Type 1} → statement M
 frame-of-spec =
@@ -98,4 +121,6 @@ frame-of-spec =
     fine-requires-2
     row-at-requires
     fine-requires-3
+    exponent-requires
+    add-k
     returns)

@@ -32,21 +32,18 @@ better-requires c κs = let f = c .first-guess .ensures in (f .0, f .1, v-size (
 better-requires-2 : tie.Need-better-requires-2
 better-requires-2 c κs = let f = c .better .ensures in (f .0, f .1, v-size (c .before .before))
 
-better-requires-3 : tie.Need-better-requires-3
-better-requires-3 c κs = let f = c .better2 .ensures in (f .0, f .1, v-size (c .before .before .before))
-
 cap-requires : tie.Need-cap-requires
 cap-requires c κs = search needs
 
 up-from-requires : tie.Need-up-from-requires
-up-from-requires c κs = (c .cap .ensures, v-size (c .before .before .before .before .before))
+up-from-requires c κs = (c .cap .ensures, v-size (c .before .before .before .before))
 
 down-from-requires : tie.Need-down-from-requires
 down-from-requires c κs = search needs
 
 returns : tie.Need-returns
 returns c =
-    let s = c .before .before .before .before .before .before .before in
+    let s = c .before .before .before .before .before .before in
     let e = c .down-from .ensures in
     (e, omega (arith, e, root-least (s .args .p * s .args .p + s .args .q * s .args .q) 1073741824 (v-size s)))
 
@@ -60,7 +57,6 @@ length-spec =
     first-guess-requires
     better-requires
     better-requires-2
-    better-requires-3
     cap-requires
     up-from-requires
     down-from-requires

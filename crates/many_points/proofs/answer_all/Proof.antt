@@ -14,8 +14,8 @@ use Rattle.model.specs.Trees.{Tree}
 use Rattle.model.specs.Entries.{over, spotsIn, replies}
 use Rattle.model.specs.Promises.{spotX, spotY}
 use Rattle.subtrees.specs.Fronts.{Holds}
-use Rattle.many_points.proofs.Checking.{few-points}
 use Rattle.many_points.proofs.Writing.{number-size, number-read, three, three-read, left-long, one-more, all-written}
+use Rattle.many_points.specs.Replies.{by-twos}
 use Rattle.many_points.proofs.answer_all.Statement.{statement}
 use Rattle.many_points.proofs.answer_all.Tie as tie
 
@@ -35,14 +35,14 @@ y-of-requires : tie.Need-y-of-requires Inv-loop μ-loop
 y-of-requires c κs = omega arith
 
 place-of-requires : tie.Need-place-of-requires Inv-loop μ-loop
-place-of-requires c κs = let s = c .before .before .before .before in omega (arith, few-points (s .args .spots .now) (s .pre .1 .0 .1))
+place-of-requires c κs = let s = c .before .before .before .before in omega (arith, by-twos (s .args .spots .now) (s .pre .1 .0 .1) .1)
 
 -- the k-th reply lies within the reply
 within : (c : tie.After-place-of Inv-loop μ-loop) → (c .place-of .result + 3 ≤ length (c .before .before .before .before .loop .reply)) × (c .place-of .result < 768)
 within c =
     let s = c .before .before .before .before .before in
     let l = c .before .before .before .before .loop in
-    let f = few-points (s .args .spots .now) (s .pre .1 .0 .1) in
+    let f = by-twos (s .args .spots .now) (s .pre .1 .0 .1) .1 in
     (omega (arith, c .place-of .ensures, s .pre .1 .1, l .inv .1), omega (arith, c .place-of .ensures, f))
 
 mul-answer : tie.Need-mul-answer Inv-loop μ-loop

@@ -11,7 +11,7 @@ use lib.Signed.{leZ}
 use lib.ListN.{length, getD}
 use Rattle.integers.specs.Signed.{back, sized}
 use Rattle.integers.specs.Absolute.{absℤ}
-use Rattle.integers.specs.Tests.{negated}
+use Rattle.integers.specs.Tests.{negated, and-false}
 use Rattle.row_laws.specs.Columns.{off}
 use Rattle.filling.specs.Squares.{Drawn}
 use Rattle.spans.specs.declared.Span.{Span}
@@ -21,7 +21,7 @@ use Rattle.levels.specs.Open.{openIn}
 use Rattle.columns.specs.Views.{insideIn}
 use Rattle.rows.specs.Levels.{RowsReady}
 use Rattle.rows.proofs.Narrows.{at-level, read-most}
-use Rattle.rows.proofs.Turns.{and-false, no-row, one-more, all-rows}
+use Rattle.rows.proofs.Turns.{no-row, one-more, all-rows}
 use Rattle.rows.proofs.Deep.{x-made, y-made, deep-x-made, deep-y-made, found-is, rows-are}
 use Rattle.rows.proofs.paint_deep.Statement.{statement}
 use Rattle.rows.proofs.paint_deep.Tie as tie

@@ -17,9 +17,6 @@ module _ (c : tie.Start) where
   v : Made (c .args .v) (c .args .v) 4611686018427387904
   v = arg (c .pre .v-size) (c .fits .v)
 
-  d : Made (c .args .d) (c .args .d) 1152921504606846976
-  d = arg (c .pre .d-size) (c .fits .d)
-
 below : (c : tie.Then1) → (n : ℕ) × (c .before .args .v ≡ negsuc n)
 below c =
     let t = rw (back (v (c .before))) at (c .if1 .taken) in
@@ -31,13 +28,13 @@ above c =
     ⊎-elim (λ m. let e = rw (m .1) at t in absurd (subst T e tt)) (λ m. rw (m .1) tt) (sign (c .before .args .v))
 
 returns : tie.Need-returns
-returns c = λ i. rw (below c .1) (none-up-to (below c .0) (c .before .args .d) i (c .before .pre .d-nonneg))
+returns c = λ i. rw (below c .1) (none-up-to (below c .0) (c .before .args .step .d) i (c .before .pre .d-nonneg))
 
 first-past-requires : tie.Need-first-past-requires
-first-past-requires c κs = let s = c .before in sized (v s) (d s) (above c) (s .pre)
+first-past-requires c κs = let s = c .before in sized (v s) (above c) (s .pre)
 
 returns-2 : tie.Need-returns-2
-returns-2 c = let s = c .before .before in rw (back (v s), back (d s)) at (c .first-past .ensures)
+returns-2 c = let s = c .before .before in rw (back (v s)) at (c .first-past .ensures)
 
 pub first-above-spec : {M : Type 1} → statement M
 first-above-spec = tie.close (tie.spec returns first-past-requires returns-2)
