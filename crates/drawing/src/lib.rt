@@ -213,7 +213,7 @@ fn draw_by_rows(map: &mut [u8], store: &[i32], list: &[usize; 64], count: usize,
     draw_trees(map, store, list, count, frame, &mut los, &mut his);
 }
 
-// Whether rows are the faster way: the reach is small beside the plate, so that few of a row's cells are near an edge.
+// Whether rows are taken to be the faster way: the reach is small beside the plate, so that few of a row's cells are near an edge.
 fn is_by_rows(frame: Frame) -> bool
     requires sizes { ⌜ FrameSized frame ⌝ }
     ensures small { λ b. ⌜ b ≡ leZ (pos 24 *ℤ frame .reach) (pos 2 *ℤ frame .q *ℤ pos (frame .n)) ⌝ }
@@ -320,7 +320,7 @@ pub fn draw_by(cells: &mut [u8], store: &[i32], job: Job, by_rows: bool)
     draw(cells, store, &list, count, frame, 0, 0, side);
 }
 
-// Draws it in the way that is the faster one.
+// Draws it in the way that is taken to be the faster one. Which it is no contract can see, nor need it: the map is the same.
 pub fn draw_map(cells: &mut [u8], store: &[i32], job: Job)
     requires ready { ⌜ MapReady job (now cells) (now store) ⌝ }
     ensures map { λ _. ⌜ now (cells .exit) ≡ written (mapOf job) (now (cells .entry)) ⌝ }
