@@ -40,6 +40,17 @@
 extern "C" {
 #endif
 
+/* The version: docs/VERSIONS.md says when each part rises. */
+#define CLEARANCE_MAJOR 1
+#define CLEARANCE_MINOR 0
+#define CLEARANCE_PATCH 0
+/* The version as clearance_version tells it, with the length of a job's row and
+ * of a node in front: 583, 11, 001, 000, 000. */
+#define CLEARANCE_VERSION                                                      \
+    (((UINT64_C(100) * CLEARANCE_JOB_NUMBERS + CLEARANCE_NODE_NUMBERS) * 1000 + \
+      CLEARANCE_MAJOR) * 1000000 +                                             \
+     CLEARANCE_MINOR * 1000 + CLEARANCE_PATCH)
+
 /* Refusals: what every function returns, and 0 where it accepts. Of several
  * that apply, read, write, map and point give the one with the lowest number;
  * points goes by an order of its own, which stands there. */
@@ -163,6 +174,18 @@ enum {
     /* How many numbers there are. */
     CLEARANCE_NEAREST_NUMBERS = 3
 };
+
+/*
+ * Tells which library this is: CLEARANCE_VERSION as it was where the library was
+ * built. A caller that was built with another header compares them before any
+ * other call:
+ *
+ *     if (clearance_version() / 1000000 != CLEARANCE_VERSION / 1000000) ...
+ *
+ * is so where the rows or nodes are of another length, whatever the versions
+ * (theorem version-tells), or the major version is another.
+ */
+uint64_t clearance_version(void);
 
 /*
  * Reads a job sheet.

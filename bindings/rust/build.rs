@@ -3,14 +3,14 @@
 use std::env;
 use std::path::PathBuf;
 
-/// The file that `rt staticlib exports` builds.
-const LIBRARY: &str = "libexports.a";
+/// The file that `tools/build-library` builds.
+const LIBRARY: &str = "libclearance.a";
 
 /// Where the library is: `CLEARANCE_LIB_DIR`, or the repository's own folder.
 fn folder() -> PathBuf {
     match env::var_os("CLEARANCE_LIB_DIR") {
         Some(folder) => folder.into(),
-        None => PathBuf::from(env!("CARGO_MANIFEST_DIR")).join("../../target/staticlib"),
+        None => PathBuf::from(env!("CARGO_MANIFEST_DIR")).join("../../build/prefix/lib"),
     }
 }
 
@@ -21,11 +21,11 @@ fn main() {
     println!("cargo::rerun-if-changed={}", library.display());
     if !library.is_file() {
         println!(
-            "cargo::error=there is no {}: run `rt staticlib exports` at the top of the repository",
+            "cargo::error=there is no {}: run `tools/build-library` at the top of the repository",
             library.display()
         );
         return;
     }
     println!("cargo::rustc-link-search=native={}", folder.display());
-    println!("cargo::rustc-link-lib=static=exports");
+    println!("cargo::rustc-link-lib=static=clearance");
 }

@@ -6,6 +6,7 @@ use crate::ffi;
 use crate::job::{Job, JOB_NUMBERS};
 use crate::nearest::{Nearest, NEAREST_NUMBERS};
 use crate::refusal::Refusal;
+use crate::version::assert_fits;
 use crate::SPOTS_MOST;
 
 /// Reads a job sheet. Refuses with 1 to 4.
@@ -20,6 +21,7 @@ use crate::SPOTS_MOST;
 /// # Ok::<(), Refusal>(())
 /// ```
 pub fn read(sheet: &[u8]) -> Result<Job, Refusal> {
+    assert_fits();
     let mut job = Job::ZERO;
     // SAFETY: a slice and a job of its own, see the head of this file.
     let number = unsafe { ffi::clearance_read(sheet.as_ptr(), sheet.len(), job.as_mut_ptr()) };
@@ -43,6 +45,7 @@ pub fn read(sheet: &[u8]) -> Result<Job, Refusal> {
 /// # Ok::<(), Refusal>(())
 /// ```
 pub fn write(job: &Job, out: &mut [u8]) -> Result<usize, Refusal> {
+    assert_fits();
     let mut bytes = 0;
     // SAFETY: a job, a slice and a number of its own, see the head of this file.
     let number = unsafe {
@@ -76,6 +79,7 @@ pub fn write(job: &Job, out: &mut [u8]) -> Result<usize, Refusal> {
 /// # Ok::<(), Refusal>(())
 /// ```
 pub fn map(job: &Job, store: &mut [i32], cells: &mut [u8]) -> Result<usize, Refusal> {
+    assert_fits();
     let mut nodes = 0;
     // SAFETY: a job, two slices and a number of its own, see the head of this file.
     let number = unsafe {
@@ -107,6 +111,7 @@ pub fn map(job: &Job, store: &mut [i32], cells: &mut [u8]) -> Result<usize, Refu
 /// # Ok::<(), Refusal>(())
 /// ```
 pub fn point(job: &Job, x: i32, y: i32, store: &[i32]) -> Result<Nearest, Refusal> {
+    assert_fits();
     let mut nearest = [0; NEAREST_NUMBERS];
     // SAFETY: a job, a slice and numbers of its own, see the head of this file.
     let number = unsafe {
@@ -153,6 +158,7 @@ pub fn point(job: &Job, x: i32, y: i32, store: &[i32]) -> Result<Nearest, Refusa
 /// # Ok::<(), Refusal>(())
 /// ```
 pub fn points(job: &Job, spots: &[[i32; 2]], store: &[i32]) -> Result<Vec<Nearest>, Refusal> {
+    assert_fits();
     // More spots are refused before the room counts.
     let mut reply = [0; SPOTS_MOST * NEAREST_NUMBERS];
     let numbers = spots.as_flattened();

@@ -12,6 +12,12 @@
 use crate::job::JOB_NUMBERS;
 
 extern "C" {
+    /// Tells which library this is: see [`VERSION`](crate::VERSION).
+    ///
+    /// # Safety
+    /// It takes nothing and writes nothing.
+    pub fn clearance_version() -> u64;
+
     /// Reads a sheet into a job's row. Gives 0 to 4. A refused call writes
     /// nothing.
     ///

@@ -7,7 +7,8 @@
 //! hundredths of a millimetre.
 //!
 //! Lent memory: a refused call changes nothing, and an accepted one nothing past
-//! what it writes.
+//! what it writes. A library with other rows or nodes than this crate's ends the
+//! program at the first call and is not misread.
 //!
 //! ```
 //! let sheet = b"(job\n(plate -8 -8 4)\n(cell 1)\n(reach 4)\n(grain 1)\n\
@@ -37,6 +38,7 @@ pub mod ffi;
 mod job;
 mod nearest;
 mod refusal;
+mod version;
 
 pub use calls::{map, point, points, read, write};
 pub use job::{
@@ -44,6 +46,7 @@ pub use job::{
 };
 pub use nearest::{Nearest, NEAREST_NUMBERS};
 pub use refusal::Refusal;
+pub use version::{version, VERSION};
 
 /// The most bytes of a sheet that is read.
 pub const SHEET_READ_MOST: usize = 8_192;

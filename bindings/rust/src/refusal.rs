@@ -14,7 +14,9 @@ use std::fmt;
 /// assert_eq!((refusal.number(), refusal.word()), (1, "form"));
 /// assert_eq!(refusal.to_string(), "refused 1 (form)");
 /// ```
+// A later minor version may bring a further refusal.
 #[repr(u8)]
+#[non_exhaustive]
 #[derive(Clone, Copy, Debug, PartialEq, Eq, PartialOrd, Ord, Hash)]
 pub enum Refusal {
     /// The bytes are no job sheet.
@@ -43,7 +45,7 @@ pub enum Refusal {
 
 impl Refusal {
     /// All of them, in the order of their numbers.
-    pub const ALL: [Refusal; 9] = [
+    pub const ALL: &'static [Refusal] = &[
         Refusal::Form,
         Refusal::Edges,
         Refusal::Range,
@@ -80,7 +82,7 @@ impl Refusal {
         if number == 0 {
             return Ok(());
         }
-        let refusal = Refusal::ALL.into_iter().find(|r| r.number() == number);
+        let refusal = Refusal::ALL.iter().copied().find(|r| r.number() == number);
         Err(refusal.expect("the library refuses with 1 to 9 only"))
     }
 }

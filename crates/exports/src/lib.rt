@@ -10,6 +10,18 @@ ghost use Rattle.model.specs.Entries as entries;
 ghost use Rattle.model.specs.Promises.{MapHolds, Bounds, wholePoint, PointsHold};
 ghost use Rattle.flat_jobs.specs.FlatJobs.{jobFrom};
 ghost use Rattle.exports.specs.Rows.{readLeaves, bytesLeft, nodesLeft, loIn, hiIn, numbersLeft};
+ghost use Rattle.exports.specs.Versions.{versionNumber};
+
+// Numbers a job, numbers a node, and the version: 583, 11 and 1.0.0.
+const VERSION: u64 = 58_311_001_000_000;
+
+// Tells which library this is: the length of a job's row, that of a node, and the version, one behind the other in decimal.
+#[no_mangle]
+pub extern "C" fn clearance_version() -> u64
+    ensures number { λ r. ⌜ r ≡ versionNumber ⌝ }
+{
+    VERSION
+}
 
 // Reads a sheet into `job`: 0, or the sheet's refusal 1, 2, 3 or 4.
 #[no_mangle]
