@@ -1,0 +1,10 @@
+"""Clearance maps that are proved: the library from Python. Every verdict and every bound comes from the proved code."""
+
+from .job import Drawn, Job
+from .library import LibraryMissing
+from .maps import Map, joined
+from .nearest import Nearest
+from .refusals import Refused
+from .version import VERSION as __version__
+
+__all__ = ["Drawn", "Job", "LibraryMissing", "Map", "Nearest", "Refused", "joined", "__version__"]

@@ -1,0 +1,1 @@
+"""The verbs of the command `clearance`, one a file."""

@@ -1,0 +1,237 @@
+"""The verb `from`: a job sheet from a DXF or an SVG drawing."""
+
+import argparse
+import errno
+import os
+from decimal import Decimal
+from fractions import Fraction
+
+from .. import advice, console, inputs, library
+from ..bounds import outline_box
+from ..drawings import dxf, svg
+from ..drawings.curves import Unusable
+from ..drawings.outline import outline_of, placed, reach_for
+from ..drawings.reading import BYTES_MOST, UNITS
+from ..gaps import gaps
+from ..lengths import hundredths, millimetres, plain, root_up
+
+SUMMARY = "makes a job sheet from a DXF or an SVG drawing"
+DESCRIPTION = f"""\
+Makes a job sheet from a drawing: its lines as lines, its curves as cubics of whole hundredths of a millimetre. What a map
+of the sheet proves, it proves of the sheet's curves; W says how far these are from the drawing at most, both ways, and the
+sheet's reach is the one that is asked for and W, rounded up. So a C cell keeps the reach that is asked for from the
+drawing itself. W is derived and not sampled; it is 0 where all lines and cubics have whole hundredths.
+
+The numbers of a drawing are taken to the nearest 10^-6 of a hundredth of a millimetre. Arcs, circles, ellipses and splines
+are followed by as few cubics as stay within --within of them, before these are rounded. Lines that go on exactly straight are joined;
+edges without length are left out. Plate, cell and grain are those of `clearance advise`, but for a plate that is given.
+
+DXF, read by the package ezdxf: the model space, LINE, LWPOLYLINE, POLYLINE, ARC, CIRCLE, ELLIPSE, SPLINE and INSERT, all
+in the plane z = 0, on all layers. SVG, read by the package svgelements: all shapes and paths, by their centre lines, y upward
+from the lower left corner of the viewBox. Text is left out: convert it to paths. Files have {BYTES_MOST:,} bytes at most.
+"""
+EXAMPLES = """\
+  clearance from examples/drawings/bracket.dxf --reach 2.5 -o bracket.sheet
+  clearance from examples/drawings/flange.svg --reach 2.5 --split -o flange.sheet
+  clearance from part.dxf --units in --reach 1.5 > part.sheet
+  clearance from part.dxf --reach 1.5 --plate 0 0 300 --at 180 12.5 -o part.sheet
+"""
+PLATE = "the plate: its lower left corner, and a side that it has at least, in millimetres (the smallest around the part)"
+AT = "move the part so that the lower left corner of its box is there, in millimetres"
+WITHIN = Fraction(1, 10_000), Fraction(10)
+
+
+def length(word):
+    """A length in millimetres, exact."""
+    try:
+        number = Fraction(word)
+    except (ValueError, ZeroDivisionError) as error:
+        raise argparse.ArgumentTypeError(f"{word} is no length in millimetres") from error
+    if "/" in word or number <= 0:
+        raise argparse.ArgumentTypeError(f"{word} is no length above 0 in millimetres")
+    return number
+
+
+def whole(word):
+    """A length of whole hundredths, in hundredths."""
+    try:
+        return hundredths(word)
+    except ValueError as error:
+        raise argparse.ArgumentTypeError(str(error)) from error
+
+
+def plate_of(x, y, side):
+    """The plate of a corner and a side in hundredths: x, y, n with the smallest 2^n that is not below the side."""
+    if side < 1:
+        raise console.misused("--plate: the side is above 0")
+    return x, y, (side - 1).bit_length()
+
+
+def closeness(word):
+    number = length(word)
+    if not WITHIN[0] <= number <= WITHIN[1]:
+        raise argparse.ArgumentTypeError(f"{word} is not from {float(WITHIN[0])} to {WITHIN[1]} mm")
+    return number
+
+
+def arguments(parser):
+    parser.add_argument("drawing", metavar="DRAWING", help="a DXF or an SVG file")
+    parser.add_argument("--reach", metavar="MM", type=length, required=True, help="the jet's reach in millimetres")
+    parser.add_argument("--units", choices=UNITS, help="the unit of the drawing's numbers, whatever the drawing says")
+    parser.add_argument(
+        "--within", metavar="MM", type=closeness, default=Fraction(1, 100), help="how close cubics stay to arcs and splines (0.01)"
+    )
+    parser.add_argument("--plate", metavar=("X", "Y", "SIDE"), nargs=3, type=whole, help=PLATE)
+    parser.add_argument("--at", metavar=("X", "Y"), nargs=2, type=whole, help=AT)
+    inputs.add_store(parser, library.PROGRAM_STORE, advice.STORE)
+    parser.add_argument("-o", "--output", metavar="FILE", default="-", help="the sheet (standard output)")
+    parser.add_argument(
+        "--split", action="store_true", help="write FILE-1.sheet, FILE-2.sheet ... of up to 64 edges each, on one plate; also where one is enough"
+    )
+    parser.add_argument("--json", action="store_true", help="write what is said of the sheet as JSON to standard output; needs -o")
+
+
+def run(asked):
+    if asked.split and asked.output == "-":
+        raise console.misused("--split needs -o FILE.sheet")
+    if asked.json and asked.output == "-":
+        raise console.misused("--json needs -o FILE")
+    plate = plate_of(*asked.plate) if asked.plate else None
+    try:
+        drawing, outline = read(asked)
+        reach = reach_for(asked.reach * 100, outline.off)
+        jobs = jobs_of(outline.edges, reach, plate, asked)
+    except Unusable as error:
+        raise console.found(f"{console.at(asked.drawing, *error.place)}: {error}") from error
+    except advice.Unadvisable as error:
+        raise console.found(f"{asked.drawing}: {error}") from error
+    files = written_names(asked, len(jobs))
+    facts = facts_of(drawing, outline, asked.reach, reach, files)
+    write_all([(name, job.to_sheet()) for name, job in zip(files, jobs)])
+    for sentence in sentences(facts):
+        console.say(f"{asked.drawing}: {sentence}")
+    if asked.json:
+        console.put_json(facts)
+    return console.DONE
+
+
+def read(asked):
+    """The drawing and its outline. What a file is its first bytes tell, not its name."""
+    data = console.read_bytes(asked.drawing, BYTES_MOST)
+    kind = dxf if dxf.looks_like(data) else svg if svg.looks_like(data) else None
+    if kind is None:
+        raise Unusable("it is no DXF and no SVG drawing")
+    if len(data) > BYTES_MOST:
+        raise Unusable(f"it has more than {BYTES_MOST:,} bytes, the most of a drawing that are read")
+    drawing = kind.read(data, UNITS.get(asked.units))
+    if not drawing.curves:
+        raise Unusable("there is nothing in it that makes an edge" + left_out_words(drawing.left_out, "; left out: {}"))
+    return drawing, placed(outline_of(drawing.curves, float(asked.within * 100)), asked.at)
+
+
+def jobs_of(edges, reach, plate, asked):
+    """One job, or as many on one plate as it takes."""
+    most = library.EDGES_MOST
+    if not asked.split and len(edges) > most:
+        raise Unusable(f"it has {len(edges)} edges, and a sheet has {most} at most; --split -o FILE.sheet writes several sheets for one plate")
+    plate = plate or advice.plate_for(edges, reach)
+    groups = [edges[start : start + most] for start in range(0, len(edges), most)]
+    return [advice.advised(group, reach, plate, asked.store) for group in groups]
+
+
+def written_names(asked, count):
+    if not asked.split:
+        return [asked.output]
+    stem, suffix = os.path.splitext(asked.output)
+    return [f"{stem}-{number}{suffix}" for number in range(1, count + 1)]
+
+
+def write_all(files):
+    """Writes all files or none: several are written under other names first, and put in their places when all are there."""
+    if len(files) == 1:
+        console.write_bytes(*files[0])
+        return
+    beside = {name: f"{name}.part{os.getpid()}" for name, _ in files}
+    try:
+        for name, data in files:
+            if os.path.lexists(name) and not os.path.isfile(name):
+                raise FileExistsError(errno.EEXIST, "it is there and no file")
+            with open(beside[name], "wb") as file:
+                file.write(data)
+        for name, other in beside.items():
+            os.replace(other, name)
+    except OSError as error:
+        for other in beside.values():
+            if os.path.exists(other):
+                os.remove(other)
+        raise console.failed(name, error) from error
+
+
+def facts_of(drawing, outline, asked_reach, reach, files):
+    """What there is to say, as data: lengths in millimetres, but for those that say otherwise."""
+    open_ends = gaps(outline.edges)
+    left, low, right, high = outline_box(outline.edges)
+    lines = outline.lines()
+    return {
+        "files": [name for name in files if name != "-"],
+        "edges": {"count": len(outline.edges), "lines": lines, "cubics": len(outline.edges) - lines},
+        "joined": outline.joined,
+        "without_length": outline.dropped,
+        "left_out": dict(sorted(drawing.left_out.items())),
+        "remarks": drawing.remarks,
+        "loose_ends": len(open_ends),
+        "widest_gap": widest_gap(open_ends),
+        "bounds": {"x": [told(left), told(right)], "y": [told(low), told(high)]},
+        "w_hundredths": plain(Decimal(outline.off.numerator) / Decimal(outline.off.denominator)),
+        "w": plain(Decimal(outline.off.numerator) / Decimal(outline.off.denominator) / 100),
+        "reach_asked": plain(Decimal(asked_reach.numerator) / Decimal(asked_reach.denominator)),
+        "reach_written": told(reach),
+        "reach_hundredths": reach,
+    }
+
+
+def told(number):
+    """Hundredths in millimetres."""
+    return plain(millimetres(number))
+
+
+def widest_gap(open_ends):
+    """The widest gap, its width rounded up, and where it is."""
+    if not open_ends:
+        return None
+    widest = open_ends[0]
+    # root_up takes squared fine units, sixteenths of a hundredth.
+    return {"mm": plain(root_up(widest.squared * 256)), "at": [told(number) for number in widest.end]}
+
+
+def left_out_words(left_out, words):
+    return words.format(", ".join(f"{count} {kind}" for kind, count in sorted(left_out.items()))) if left_out else ""
+
+
+def counted(number, thing):
+    return f"{number} {thing}{'' if number == 1 else 's'}"
+
+
+def sentences(facts):
+    """The same in words."""
+    edges, files = facts["edges"], facts["files"]
+    room = f"on {len(files)} sheets" if len(files) > 1 else f"of {library.EDGES_MOST}"
+    yield f"{counted(edges['count'], 'edge')} {room}: {counted(edges['lines'], 'line')}, {counted(edges['cubics'], 'cubic')}"
+    if facts["joined"]:
+        yield f"{counted(facts['joined'], 'line')} joined to others that go on straight"
+    if facts["without_length"]:
+        yield f"{counted(facts['without_length'], 'edge')} without length left out"
+    if facts["left_out"]:
+        yield left_out_words(facts["left_out"], "left out: {}")
+    yield from facts["remarks"]
+    gap = facts["widest_gap"]
+    if gap:
+        yield f"{counted(facts['loose_ends'], 'end')} that meet no other; the widest gap is {gap['mm']} mm, at ({', '.join(gap['at'])}) mm"
+    else:
+        yield "closed: every end meets another"
+    across, up = facts["bounds"]["x"], facts["bounds"]["y"]
+    yield f"bounds: x from {across[0]} to {across[1]} mm, y from {up[0]} to {up[1]} mm"
+    yield f"W is {facts['w_hundredths']} hundredths ({facts['w']} mm): no point of the drawing or of the outline is farther from the other"
+    yield f"reach: {facts['reach_hundredths']} hundredths, {facts['reach_asked']} mm and W rounded up"
+    if len(files) > 1:
+        yield f"written: {', '.join(files)}"

@@ -1,0 +1,78 @@
+"""A job's figures as people read them: lengths in millimetres, counts and shares."""
+
+from decimal import Decimal
+
+from .bounds import outline_box
+from .job import is_line
+from .lengths import millimetres, plain
+from .maps import LETTERS
+
+
+def twice_band(grain, m):
+    """Twice the band E = 3 grains + 1.5 cell sides, which is whole."""
+    return 6 * grain + 3 * (1 << m)
+
+
+def band(grain, m):
+    """E in millimetres, exactly."""
+    return Decimal(5 * twice_band(grain, m)).scaleb(-3)
+
+
+def length(hundredths):
+    """A length in millimetres, as text."""
+    return plain(millimetres(hundredths))
+
+
+def spot(x, y):
+    return f"({length(x)}, {length(y)})"
+
+
+def many(count, thing):
+    """A count of things, as text."""
+    return f"{count:,} {thing}" + ("" if count == 1 else "s")
+
+
+def sizes(job):
+    """What a job's sheet states, for a report: names and texts."""
+    left, low, right, high = outline_box(job.edges)
+    lines = sum(map(is_line, job.edges))
+    side = 1 << (job.n - job.m)
+    return {
+        "plate": f"{length(1 << job.n)} mm a side, lower left corner at {spot(job.x, job.y)} mm",
+        "cell": f"{length(1 << job.m)} mm a side, {side} by {side} cells",
+        "reach": f"{length(job.reach)} mm",
+        "grain": f"{job.grain} ({length(job.grain)} mm)",
+        "edges": f"{len(job.edges)}: {lines} straight, {len(job.edges) - lines} cubic",
+        "outline": f"{length(right - left)} by {length(high - low)} mm, from {spot(left, low)} to {spot(right, high)} mm",
+    }
+
+
+def sizes_data(job):
+    """The same as data; lengths in millimetres but for the grain, which is told as the sheet has it."""
+    lines = sum(map(is_line, job.edges))
+    return {
+        "plate": {"x_mm": number(job.x), "y_mm": number(job.y), "side_mm": number(1 << job.n)},
+        "cell_mm": number(1 << job.m),
+        "cells_a_side": 1 << (job.n - job.m),
+        "reach_mm": number(job.reach),
+        "grain": job.grain,
+        "edges": {"lines": lines, "cubics": len(job.edges) - lines},
+        "outline": dict(zip(("left_mm", "low_mm", "right_mm", "high_mm"), map(number, outline_box(job.edges)))),
+        "band_mm": float(band(job.grain, job.m)),
+    }
+
+
+def number(hundredths):
+    """Millimetres as JSON has them: the shortest decimal that names the float is the exact length."""
+    return float(millimetres(hundredths))
+
+
+def shares(drawn):
+    """Each letter's count of cells in a map, and its share in per cent."""
+    total = drawn.side * drawn.side
+    return {letter: (count, 100 * count / total) for letter, count in drawn.counts().items()}
+
+
+def shares_text(drawn):
+    told = shares(drawn)
+    return ", ".join(f"{letter} {told[letter][0]:,} ({told[letter][1]:.1f} %)" for letter in LETTERS)

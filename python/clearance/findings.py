@@ -1,0 +1,88 @@
+"""What is likely wrong with a sheet that is accepted: check's warnings. None of them changes a verdict."""
+
+from dataclasses import dataclass
+
+from .bounds import edge_box, outline_box
+from .figures import band, length, twice_band
+from .gaps import gaps
+from .lengths import plain, root_up
+
+# Below so many hundredths in width and height, millimetres may have been written in place of hundredths.
+SMALL = 500
+FINE_SQUARED = 16**2
+
+
+@dataclass(frozen=True)
+class Finding:
+    """A warning: its kind in one word, the sheet's line that it is about (0 for none), and its text."""
+
+    kind: str
+    line: int
+    text: str
+
+
+def findings(given):
+    """The warnings of an Input, in the order of the sheet's concerns: plate, reach, size, gaps."""
+    found = (plate_finding(given), reach_finding(given), size_finding(given), gap_finding(given))
+    return [finding for finding in found if finding]
+
+
+def line_of(given, index):
+    return given.sheet.edges[index][0].line
+
+
+def beyond(box, job, margin):
+    """Whether a box grown by a margin goes beyond the plate.
+
+    The plate's sides and the margin are whole numbers, so this is true of the edge's own box, which may not be
+    whole, exactly where it is true of that box rounded outward.
+    """
+    left, low, right, high = box
+    side = 1 << job.n
+    return left - margin < job.x or low - margin < job.y or right + margin > job.x + side or high + margin > job.y + side
+
+
+def plate_finding(given):
+    """The outline goes off the plate, or comes closer to its border than the reach."""
+    job = given.job
+    boxes = [edge_box(edge) for edge in job.edges]
+    off = [index for index, box in enumerate(boxes) if beyond(box, job, 0)]
+    if off:
+        several = f"{len(off)} of {len(boxes)} edges go" if len(boxes) > 1 else "the edge goes"
+        return Finding("plate", line_of(given, off[0]), f"{several} off the plate; what lies beyond it is not mapped")
+    near = [index for index, box in enumerate(boxes) if beyond(box, job, job.reach)]
+    if near:
+        several = f"{len(near)} of {len(boxes)} edges come" if len(boxes) > 1 else "the edge comes"
+        text = f"{several} closer than the reach to the plate's border; what is in reach beyond it is not mapped"
+        return Finding("border", line_of(given, near[0]), text)
+    return None
+
+
+def reach_finding(given):
+    job = given.job
+    if 2 * job.reach >= twice_band(job.grain, job.m):
+        return None
+    told = plain(band(job.grain, job.m))
+    text = f"the reach, {length(job.reach)} mm, is below the band E, {told} mm; there may be few cells in reach (I), or none"
+    return Finding("reach", given.sheet.reach.line, text)
+
+
+def size_finding(given):
+    left, low, right, high = outline_box(given.job.edges)
+    width, height = right - left, high - low
+    if max(width, height) >= SMALL:
+        return None
+    text = f"the outline is only {length(width)} by {length(height)} mm; were millimetres written instead of hundredths?"
+    return Finding("size", line_of(given, 0), text)
+
+
+def gap_finding(given):
+    """Ends that no other end meets exactly."""
+    free = gaps(given.job.edges)
+    if not free:
+        return None
+    widest = free[0]
+    ends_told = f"{len(free)} ends of edges meet" if len(free) > 1 else "1 end of an edge meets"
+    distance = plain(root_up(widest.squared * FINE_SQUARED))
+    text = f"the outline has gaps: {ends_told} no other end; the widest gap, at this edge, is {distance} mm to the nearest other end"
+    return Finding("gap", line_of(given, widest.edge), text)

@@ -1,0 +1,3 @@
+"""The version that library, header, bindings, module and tool share: docs/VERSIONS.md."""
+
+VERSION = "1.0.0"

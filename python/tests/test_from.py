@@ -1,0 +1,628 @@
+"""Tests of the verb `from`: job sheets from DXF and SVG drawings."""
+
+import contextlib
+import importlib.util
+import io
+import json
+import math
+import os
+import subprocess
+import sys
+import tempfile
+import unittest
+from fractions import Fraction
+from pathlib import Path
+from unittest import mock
+
+from clearance import cli
+from clearance.bounds import outline_box
+from clearance.drawings import dxf, outline, svg, svg_check
+from clearance.drawings.fitting import pieces
+from clearance.job import Job
+
+from .test_fitting import SEARCHED, bezier_function, edge_of, piece_function, sampled
+
+DRAWINGS = Path(__file__).resolve().parents[2] / "examples" / "drawings"
+PARTS = ("bracket", "flange", "gear", "text")
+
+
+def is_there(name):
+    """Whether a package can be imported; one that is hidden cannot."""
+    try:
+        importlib.import_module(name)
+    except ImportError:
+        return False
+    return True
+
+
+HAS = {name: is_there(name) for name in ("ezdxf", "svgelements")}
+needs_ezdxf = unittest.skipUnless(HAS["ezdxf"], "the package ezdxf is missing")
+needs_svgelements = unittest.skipUnless(HAS["svgelements"], "the package svgelements is missing")
+
+
+def ran(*words):
+    """Status, standard output and standard error of the command."""
+    out, err = io.TextIOWrapper(io.BytesIO()), io.StringIO()
+    with mock.patch.dict(cli.VERBS, {"from": "from_drawing"}, clear=True), mock.patch("sys.stdout", out):
+        with contextlib.redirect_stderr(err):
+            try:
+                status = cli.main(["from", *map(str, words)])
+            except SystemExit as ended:
+                status = ended.code
+    out.flush()
+    return status, out.buffer.getvalue(), err.getvalue()
+
+
+class Case(unittest.TestCase):
+    def setUp(self):
+        folder = tempfile.TemporaryDirectory()
+        self.addCleanup(folder.cleanup)
+        self.folder = Path(folder.name)
+
+    def file(self, name, data):
+        path = self.folder / name
+        path.write_bytes(data if isinstance(data, bytes) else data.encode("utf-8"))
+        return path
+
+    def job(self, path, *words, reach="2.5"):
+        """The job of a drawing, and what was said."""
+        status, out, err = ran(path, "--reach", reach, *words)
+        self.assertEqual(status, 0, err)
+        return Job.from_sheet(out), err
+
+    def finding(self, path, *said, words=(), status=1):
+        """That a drawing ends the verb with a message that names it, and that nothing is written."""
+        before = sorted(os.listdir(self.folder))
+        found, out, err = ran(path, "--reach", "2.5", *words)
+        self.assertEqual((found, out), (status, b""), err)
+        self.assertTrue(err.startswith(f"clearance: {path}:"), err)
+        self.assertEqual(err.count("\n"), 1, err)
+        for text in said:
+            self.assertIn(text, err)
+        self.assertEqual(sorted(os.listdir(self.folder)), before)
+
+
+# DXF.
+
+
+def tags(*pairs):
+    return "".join(f"{code}\n{value}\n" for code, value in pairs)
+
+
+def points(code, *all_points):
+    return [(code + 10 * axis, value) for point in all_points for axis, value in enumerate(point)]
+
+
+def entity(kind, *pairs):
+    return tags((0, kind), (8, "0"), *pairs)
+
+
+def newer(kind, subclass, *pairs):
+    """An entity as DXF has it from release 13 on."""
+    return tags((0, kind), (100, "AcDbEntity"), (8, "0"), (100, subclass), *pairs)
+
+
+def dxf_file(*entities, units=4, blocks=""):
+    header = tags((0, "SECTION"), (2, "HEADER"), (9, "$ACADVER"), (1, "AC1015"), (9, "$INSUNITS"), (70, units), (0, "ENDSEC"))
+    if blocks:
+        header += tags((0, "SECTION"), (2, "BLOCKS")) + blocks + tags((0, "ENDSEC"))
+    return header + tags((0, "SECTION"), (2, "ENTITIES")) + "".join(entities) + tags((0, "ENDSEC"), (0, "EOF"))
+
+
+def block(name, *entities):
+    begin = tags((0, "BLOCK"), (100, "AcDbEntity"), (8, "0"), (100, "AcDbBlockBegin"), (2, name), (70, 0), (10, 0), (20, 0), (30, 0), (3, name))
+    return begin + "".join(entities) + tags((0, "ENDBLK"), (100, "AcDbEntity"), (8, "0"), (100, "AcDbBlockEnd"))
+
+
+def insert(name, *pairs):
+    return newer("INSERT", "AcDbBlockReference", (2, name), *pairs)
+
+
+LINE = entity("LINE", *points(10, (0, 0)), *points(11, (10, 5)))
+SPLINE = newer(
+    "SPLINE", "AcDbSpline", (70, 8), (71, 3), (72, 8), (73, 4), *[(40, 0)] * 4, *[(40, 1)] * 4, *points(10, (0, 0, 0), (1, 3, 0), (4, 3, 0), (5, 0, 0))
+)  # fmt: skip
+
+
+@needs_ezdxf
+class Dxf(Case):
+    def edges(self, *entities, words=(), **more):
+        return self.job(self.file("part.dxf", dxf_file(*entities, **more)), *words)[0].edges
+
+    def test_a_line(self):
+        self.assertEqual(self.edges(LINE), ((0, 0, 1000, 500),))
+
+    def test_units(self):
+        for code, edge in ((1, (0, 0, 25400, 12700)), (2, (0, 0, 304800, 152400)), (5, (0, 0, 10000, 5000)), (6, (0, 0, 1000000, 500000))):
+            path = self.file("part.dxf", dxf_file(LINE, units=code))
+            self.assertEqual(self.job(path, reach="0.1")[0].edges if code != 6 else (edge,), (edge,))
+        self.assertEqual(self.edges(LINE, units=0, words=("--units", "cm")), ((0, 0, 10000, 5000),))
+        self.assertEqual(self.edges(LINE, units=1, words=("--units", "mm")), ((0, 0, 1000, 500),))
+
+    def test_units_are_asked_for(self):
+        for units in (0, 7):
+            self.finding(self.file("part.dxf", dxf_file(LINE, units=units)), "--units mm|cm|m|in|ft")
+        without = tags((0, "SECTION"), (2, "ENTITIES")) + LINE + tags((0, "ENDSEC"), (0, "EOF"))
+        self.finding(self.file("part.dxf", without), "--units")
+
+    def test_a_circle(self):
+        edges = self.edges(entity("CIRCLE", *points(10, (20, 10)), (40, 5)))
+        self.assertEqual(len(edges), 3)
+        self.assertEqual({edge[:2] for edge in edges}, {edge[-2:] for edge in edges})
+        self.assertEqual(edges[0][:2], (2500, 1000))
+
+    def test_an_arc_goes_against_the_clock_over_zero(self):
+        (edge,) = self.edges(entity("ARC", *points(10, (0, 0)), (40, 10), (50, 330), (51, 30)))
+        self.assertEqual((edge[:2], edge[-2:]), ((866, -500), (866, 500)))
+        self.assertGreater(edge[2], 866)
+
+    def test_mirrored_planes(self):
+        below = points(210, (0, 0, -1))
+        (edge,) = self.edges(entity("ARC", *points(10, (10, 0)), (40, 10), (50, 0), (51, 90), *below))
+        self.assertEqual((edge[:2], edge[-2:]), ((-2000, 0), (-1000, 1000)))
+        (edge,) = self.edges(newer("LWPOLYLINE", "AcDbPolyline", (90, 2), (70, 0), (10, 0), (20, 0), (42, 0.41421356237309503), (10, 10), (20, 10), *below))
+        self.assertEqual((edge[:2], edge[-2:]), ((0, 0), (-1000, 1000)))
+        self.assertEqual(edge[2:4], (-552, 0))  # to the right of its chord in its own plane: it leaves along x
+        (first, _) = self.edges(newer("ELLIPSE", "AcDbEllipse", *points(10, (0, 0, 0)), *points(11, (10, 0, 0)), *below, (40, 0.5), (41, 0), (42, math.pi)))
+        self.assertEqual((first[:2], first[-2:]), ((1000, 0), (0, -500)))
+
+    def test_polylines_with_bulges(self):
+        pairs = [(10, 0), (20, 0), (10, 20), (20, 0), (42, 1), (10, 20), (20, 10), (10, 0), (20, 10), (42, 1)]
+        edges = self.edges(newer("LWPOLYLINE", "AcDbPolyline", (90, 4), (70, 1), *pairs))
+        self.assertEqual(edges[0], (0, 0, 2000, 0))
+        self.assertEqual([len(edge) for edge in edges], [4, 8, 8, 4, 8, 8])
+        self.assertEqual(edges[1][-2:], (2500, 500))
+        old = entity("POLYLINE", (66, 1), (70, 1), *points(10, (0, 0, 0)))
+        for x, y, bulge in ((0, 0, 0), (20, 0, 1), (20, 10, 0), (0, 10, 1)):
+            old += entity("VERTEX", (10, x), (20, y), (30, 0), (42, bulge))
+        self.assertEqual(self.edges(old + entity("SEQEND")), edges)
+
+    def test_a_negative_bulge_turns_right(self):
+        (first, *_) = self.edges(newer("LWPOLYLINE", "AcDbPolyline", (90, 2), (70, 0), (10, 0), (20, 0), (42, -1), (10, 10), (20, 0)))
+        self.assertEqual(first[-2:], (500, 500))
+
+    def test_ellipses(self):
+        whole = newer("ELLIPSE", "AcDbEllipse", *points(10, (5, 5, 0)), *points(11, (0, 20, 0)), (40, 0.25), (41, 0), (42, math.tau))
+        edges = self.edges(whole)
+        self.assertEqual(edges[0][:2], (500, 2500))
+        self.assertEqual(edges[-1][-2:], (500, 2500))
+        self.assertEqual(outline_box(edges), (0, -1500, 1000, 2500))
+
+    def test_splines(self):
+        self.assertEqual(self.edges(SPLINE), ((0, 0, 100, 300, 400, 300, 500, 0),))
+        fit = newer("SPLINE", "AcDbSpline", (70, 8), (71, 3), (72, 0), (73, 0), (74, 2), *points(11, (0, 0, 0), (1, 3, 0)))
+        self.finding(self.file("part.dxf", dxf_file(fit)), "fit points")
+
+    def test_blocks(self):
+        inner = block("INNER", LINE)
+        outer = block("OUTER", insert("INNER", *points(10, (100, 0, 0))), entity("TEXT", *points(10, (0, 0)), (40, 1), (1, "hi")))
+        turned = insert("OUTER", *points(10, (0, 0, 0)), (41, 2), (42, 2), (50, 90))
+        path = self.file("part.dxf", dxf_file(turned, blocks=inner + outer))
+        job, err = self.job(path)
+        self.assertEqual(job.edges, ((0, 20000, -1000, 22000),))
+        self.assertIn("left out: 1 TEXT", err)
+        rows = insert("INNER", *points(10, (0, 0, 0)), (70, 2), (71, 3), (44, 50), (45, 30))
+        self.assertEqual(len(self.edges(rows, blocks=inner)), 6)
+        uneven = block("ROUND", entity("CIRCLE", *points(10, (0, 0)), (40, 10)))
+        edges = self.edges(insert("ROUND", *points(10, (0, 0, 0)), (41, 2), (42, 1)), blocks=uneven)
+        self.assertEqual(outline_box(edges), (-2000, -1000, 2000, 1000))
+        self.finding(self.file("part.dxf", dxf_file(insert("NONE", *points(10, (0, 0, 0))))), "'NONE' is missing")
+
+    def test_blocks_that_grow_without_bound(self):
+        blocks = block("B0", LINE)
+        for level in range(1, 12):
+            blocks += block(f"B{level}", *[insert(f"B{level - 1}", *points(10, (0, 0, 0)))] * 10)
+        self.finding(self.file("part.dxf", dxf_file(insert("B11", *points(10, (0, 0, 0))), blocks=blocks)), "entities")
+        rows = insert("B0", *points(10, (0, 0, 0)), (70, 30000), (71, 30000), (44, 1), (45, 1))
+        self.finding(self.file("part.dxf", dxf_file(rows, blocks=block("B0", LINE))), "entities")
+        ring = block("A", insert("B", *points(10, (0, 0, 0)))) + block("B", insert("A", *points(10, (0, 0, 0))))
+        self.finding(self.file("part.dxf", dxf_file(insert("A", *points(10, (0, 0, 0))), blocks=ring)))
+
+    def test_what_is_not_flat(self):
+        for not_flat in (
+            entity("LINE", *points(10, (0, 0, 0)), *points(11, (1, 1, 1))),
+            entity("CIRCLE", *points(10, (0, 0, 3)), (40, 5)),
+            entity("CIRCLE", *points(10, (0, 0, 0)), (40, 5), *points(210, (0, 1, 0))),
+            newer("LWPOLYLINE", "AcDbPolyline", (90, 2), (70, 0), (38, 4), (10, 0), (20, 0), (10, 1), (20, 1)),
+        ):
+            self.finding(self.file("part.dxf", dxf_file(LINE, not_flat)), "is not in the plane z = 0")
+
+    def test_others_are_left_out_and_counted(self):
+        others = entity("TEXT", *points(10, (0, 0)), (40, 1), (1, "hi")) * 2 + entity("POINT", *points(10, (0, 0)))
+        _, err = self.job(self.file("part.dxf", dxf_file(LINE, others)))
+        self.assertIn("left out: 1 POINT, 2 TEXT", err)
+        self.finding(self.file("part.dxf", dxf_file(others)), "nothing in it that makes an edge; left out: 1 POINT, 2 TEXT")
+        self.finding(self.file("part.dxf", dxf_file()), "nothing in it")
+
+    def test_numbers_that_are_none(self):
+        for value in ("nan", "inf", "1e400"):
+            for bad in (
+                entity("LINE", *points(10, (0, 0)), *points(11, (value, 5))),
+                entity("CIRCLE", *points(10, (0, 0)), (40, value)),
+                entity("ARC", *points(10, (0, 0)), (40, 5), (50, value), (51, 90)),
+                newer("LWPOLYLINE", "AcDbPolyline", (90, 2), (70, 0), (10, 0), (20, 0), (42, value), (10, 1), (20, 1)),
+                newer("ELLIPSE", "AcDbEllipse", *points(10, (0, 0, 0)), *points(11, (1, 0, 0)), (40, value), (41, 0), (42, 1)),
+                SPLINE.replace("40\n1\n", f"40\n{value}\n"),
+            ):
+                self.finding(self.file("part.dxf", dxf_file(bad)))
+
+    def test_lines_without_ends(self):
+        self.finding(self.file("part.dxf", dxf_file(entity("LINE", *points(10, (0, 0))))), "has no end")
+
+    def test_far_coordinates(self):
+        self.finding(self.file("part.dxf", dxf_file(entity("LINE", *points(10, (0, 0)), *points(11, (10_001, 0))))), "10,000 mm at most")
+
+    def test_broken_files(self):
+        good = dxf_file(LINE)
+        for cut in range(60, len(good) - 8, 7):
+            path = self.file("part.dxf", good[:cut])
+            status, _, err = ran(path, "--reach", "1")
+            self.assertEqual(status, 1, err)
+        for broken in (good.replace("10\n", "ten\n"), good.replace("11\n10", "11\nx"), "0\nSECTION\n" + "\x00" * 100):
+            self.finding(self.file("part.dxf", broken))
+
+    def test_binary_files(self):
+        import ezdxf  # pylint: disable=import-outside-toplevel
+
+        document = ezdxf.new("R2000", units=4)
+        document.modelspace().add_line((0, 0), (10, 5))
+        path = self.folder / "binary.dxf"
+        document.saveas(path, fmt="bin")
+        self.assertEqual(self.job(path)[0].edges, ((0, 0, 1000, 500),))
+
+    def test_line_ends_of_other_systems_and_comments(self):
+        for data in (dxf_file(LINE).replace("\n", "\r\n"), "999\nmade by hand\n" + dxf_file(LINE)):
+            self.assertEqual(self.job(self.file("part.dxf", data))[0].edges, ((0, 0, 1000, 500),))
+
+    def test_splines_of_too_many_points(self):
+        many = newer("SPLINE", "AcDbSpline", (70, 8), (71, 3), *[(40, i) for i in range(1104)], *points(10, *[(i, i % 7, 0) for i in range(1100)]))
+        self.finding(self.file("part.dxf", dxf_file(many)), "more than 1,000 control points")
+        high = newer("SPLINE", "AcDbSpline", (70, 8), (71, 40), *[(40, 0)] * 41, *[(40, 1)] * 41, *points(10, *[(i, i % 7, 0) for i in range(41)]))
+        self.finding(self.file("part.dxf", dxf_file(high)), "the degree 40")
+
+    def test_too_long_files(self):
+        self.finding(self.file("part.dxf", dxf_file(LINE * 100_000)), "more than 1,000,000 bytes")
+
+
+# SVG.
+
+
+def svg_file(*shapes, root='width="60mm" height="40mm" viewBox="0 0 60 40"', before=""):
+    names = 'xmlns="http://www.w3.org/2000/svg" xmlns:xlink="http://www.w3.org/1999/xlink"'
+    return f"{before}<svg {names} {root}>\n" + "\n".join(shapes) + "\n</svg>\n"
+
+
+@needs_svgelements
+class Svg(Case):
+    def edges(self, *shapes, words=(), **more):
+        return self.job(self.file("part.svg", svg_file(*shapes, **more)), *words)[0].edges
+
+    def box(self, *shapes, **more):
+        return outline_box(self.edges(*shapes, **more))
+
+    def test_shapes_with_y_upward(self):
+        self.assertEqual(self.edges('<line x1="1" y1="2" x2="11" y2="3"/>'), ((100, 3800, 1100, 3700),))
+        self.assertEqual(self.edges('<polyline points="1,2 11,3 12,9"/>'), ((100, 3800, 1100, 3700), (1100, 3700, 1200, 3100)))
+        self.assertEqual(len(self.edges('<polygon points="1,2 11,3 12,9"/>')), 3)
+        self.assertEqual(self.box('<rect x="5" y="10" width="20" height="15"/>'), (500, 1500, 2500, 3000))
+        self.assertEqual(self.box('<circle cx="20" cy="10" r="7"/>'), (1300, 2300, 2700, 3700))
+        self.assertEqual(self.box('<ellipse cx="20" cy="10" rx="7" ry="3"/>'), (1300, 2700, 2700, 3300))
+
+    def test_rounded_rectangles(self):
+        edges = self.edges('<rect x="5" y="10" width="20" height="15" rx="3" ry="2"/>')
+        self.assertEqual([len(edge) for edge in edges], [4, 8] * 4)
+        self.assertEqual(edges[1], (2200, 3000, 2366, 3000, 2500, 2910, 2500, 2800))
+        self.assertEqual(len(self.edges('<rect x="5" y="10" width="20" height="15" rx="99"/>')), 4)
+
+    def test_paths(self):
+        path = '<path d="M1 1 h4 v3 l1,1 H2 V30 C 2 35 4 36 6 36 s 3 1 5 1 q 3 0 3 -6 t 3 -6 z m 20 0 l 1 1"/>'
+        edges = self.edges(path)
+        self.assertEqual([len(edge) for edge in edges], [4, 4, 4, 4, 4, 8, 8, 8, 8, 4, 4])
+        self.assertEqual(edges[5], (200, 1000, 200, 500, 400, 400, 600, 400))
+        self.assertEqual(edges[-1], (2100, 3900, 2200, 3800))
+
+    def test_arcs_of_paths(self):
+        (edge,) = self.edges('<path d="M 10 10 A 5 5 0 0 1 15 15"/>')
+        self.assertEqual(edge, (1000, 3000, 1276, 3000, 1500, 2776, 1500, 2500))
+        self.assertEqual(self.box('<path d="M10 10a5 5 0 1110 0"/>'), (1000, 3000, 2000, 3500))
+        self.assertEqual(self.box('<path d="M10 10A1 1 0 0 0 20 10"/>'), (1000, 2500, 2000, 3000))  # radii grow to reach
+        self.assertEqual(self.edges('<path d="M10 10A0 5 0 0 0 20 10"/>'), ((1000, 3000, 2000, 3000),))
+        self.assertEqual(self.edges('<path d="M10 10A5 5 0 0 0 10 10L20 10"/>'), ((1000, 3000, 2000, 3000),))
+        self.assertEqual(self.box('<path d="M 20 20 A 10 5 90 1 1 20 20.001"/>')[1::2], (1000, 3000))
+
+    def test_transforms(self):
+        moved = '<g transform="translate(5 5)"><g transform="rotate(90)"><line x1="0" y1="0" x2="10" y2="0"/></g></g>'
+        self.assertEqual(self.edges(moved), ((500, 3500, 500, 2500),))
+        mirrored = '<path transform="matrix(-1 0 0 1 30 0)" d="M 10 10 A 5 5 0 0 1 15 15"/>'
+        self.assertEqual(self.edges(mirrored), ((2000, 3000, 1724, 3000, 1500, 2776, 1500, 2500),))
+        skewed = self.box('<circle transform="skewX(45)" cx="0" cy="0" r="10"/>', root='width="60mm" height="40mm" viewBox="-30 -20 60 40"')
+        self.assertEqual(skewed[1::2], (1000, 3000))
+        self.assertEqual(skewed[::2], (3000 - 1414, 3000 + 1414))
+        flat = self.box('<path transform="skewX(45)" d="M10 0A10 10 0 0 1 -10 0A10 10 0 0 1 10 0z"/>', root='width="60mm" height="40mm" viewBox="-30 -20 60 40"')
+        self.assertEqual(flat, skewed)
+
+    def test_uses(self):
+        used = '<defs><g id="a"><line x1="0" y1="0" x2="5" y2="0"/></g></defs><use xlink:href="#a" x="10" y="10"/><use href="#a" transform="translate(0 20)"/>'
+        self.assertEqual(self.edges(used), ((1000, 3000, 1500, 3000), (0, 2000, 500, 2000)))
+
+    def test_what_is_not_displayed(self):
+        seen = '<line x1="0" y1="0" x2="5" y2="0"/>'
+        hidden = f'<g display="none">{seen}</g><g style="display:none"><circle r="5"/></g>'
+        self.assertEqual(len(self.edges(hidden, seen)), 1)
+
+    def test_physical_sizes(self):
+        line = '<line x1="0" y1="0" x2="6" y2="0"/>'
+        for root, length in (
+            ('width="6cm" height="4cm" viewBox="0 0 60 40"', 600),
+            ('width="6in" height="4in" viewBox="0 0 6 4"', 15240),
+            ('width="6mm" height="4mm" viewBox="0 0 600 400"', 6),
+            ('width="60mm" viewBox="0 0 60 40"', 600),
+            ('width="60mm" height="20mm" viewBox="0 0 60 40"', 300),
+            ('width="60mm" height="20mm" viewBox="0 0 60 40" preserveAspectRatio="xMidYMid slice"', 600),
+            ('width="60mm" height="20mm" viewBox="0 0 60 40" preserveAspectRatio="none"', 600),
+            ('width="432pt" height="288pt" viewBox="0 0 6 4"', 15240),
+        ):
+            self.assertEqual(self.edges(line, root=root)[0][2] - self.edges(line, root=root)[0][0], length, root)
+
+    def test_units_are_asked_for(self):
+        line = '<line x1="0" y1="0" x2="6" y2="0"/>'
+        for root in ("", 'width="60" height="40"', 'width="60px" height="40px" viewBox="0 0 60 40"', 'viewBox="0 0 60 40"', 'width="60mm" height="40mm"'):
+            self.finding(self.file("part.svg", svg_file(line, root=root)), "--units mm|cm|m|in|ft")
+            edge = self.edges(line, root=root, words=("--units", "cm"))[0]
+            self.assertEqual(edge[2] - edge[0], 6000)
+        self.assertEqual(self.edges(line, words=("--units", "in"))[0], (0, 101600, 15240, 101600))
+
+    def test_text_is_left_out(self):
+        _, err = self.job(self.file("part.svg", svg_file('<text x="1" y="1">Hi <tspan>you</tspan></text><line x1="0" y1="0" x2="5" y2="0"/>')))
+        self.assertIn("left out: 1 text", err)
+        self.finding(self.file("part.svg", svg_file("<text>Hi</text>")), "nothing in it that makes an edge; left out: 1 text")
+
+    def test_faults_that_svgelements_passes_over(self):
+        for shape in (
+            '<path d="M0 0 L10 10 X 5 5"/>',
+            '<path d="M0 0 L10"/>',
+            '<path d="L10 10"/>',
+            '<path d="M0 0 C 1 1 2 2"/>',
+            '<path d="M0 0 L"/>',
+            '<polyline points="0 0 1"/>',
+            '<polyline points="0 0 1 x"/>',
+            '<circle cx="5"/>',
+            '<ellipse rx="5"/>',
+            '<circle r="5mm"/>',
+            '<rect width="50%" height="3"/>',
+            '<rect width="-5" height="3"/>',
+            '<g transform="turn(5)"/>',
+            '<g style="transform: scale(2)"/>',
+            '<use href="#later"/><line id="later" x2="5"/>',
+            '<use href="other.svg#a"/>',
+            '<g id="a"><use href="#a"/></g>',
+            '<svg width="3" height="3"/>',
+            '<symbol id="s" viewBox="0 0 1 1"/>',
+            "<style>g {transform: scale(2)}</style>",
+        ):
+            self.finding(self.file("part.svg", svg_file('<line x1="0" y1="0" x2="5" y2="0"/>', shape)), ":3:")
+
+    def test_path_data(self):
+        goods = {"": 0, " M1,2": 1, "m-1-2.5.5 3": 2, "M0 0a1 1 0 0110 0": 2, "M0 0a1 1 0 01.5.5z": 3, "M1e3-2E-1L3 4 5 6": 3, "M0 0zz": 3}
+        for good, parts in goods.items():
+            self.assertEqual(svg_check.path_parts(good)[0], parts, good)
+        for bad in ("1 2", "M", "M1", "M1 2 3", "M0 0a1 1 0 2 1 1 1", "M0 0L1 2;", "M0 0zm", "M0 0h", "M0 0L nan 1", "M٣ 1", "M5. 1"):
+            with self.assertRaises(svg_check.Fault, msg=bad):
+                svg_check.path_parts(bad)
+
+    def test_lost_shapes_are_noticed(self):
+        # svgelements passes over a shape whose stroke it cannot read.
+        with mock.patch("svgelements.Rect.__init__", side_effect=ValueError):
+            self.finding(self.file("part.svg", svg_file('<rect width="5" height="5"/><line x2="5"/>')), "gives 1 of its 2 lines and curves")
+        self.assertEqual(len(self.edges('<rect width="0" height="5"/><circle r="0"/><path d=""/><line x2="5"/>')), 1)
+
+    def test_entities_are_not_expanded(self):
+        bomb = '<!DOCTYPE svg [<!ENTITY a "10"><!ENTITY b "&a;&a;&a;">]>'
+        self.finding(self.file("part.svg", svg_file('<circle r="&b;"/>', before=bomb)), "declares an entity")
+        outside = '<!DOCTYPE svg [<!ENTITY a SYSTEM "file:///etc/passwd">]>'
+        self.finding(self.file("part.svg", svg_file("<text>&a;</text>", before=outside)), "declares an entity")
+        wide = svg_file('<circle r="5"/>', before='<?xml version="1.0" encoding="utf-16"?>' + bomb).encode("utf-16")
+        self.finding(self.file("part.svg", wide), "declares an entity")
+        plain = '<!DOCTYPE svg PUBLIC "-//W3C//DTD SVG 1.1//EN" "http://www.w3.org/Graphics/SVG/1.1/DTD/svg11.dtd">'
+        self.assertEqual(len(self.edges('<line x1="0" y1="0" x2="5" y2="0"/>', before=plain)), 1)
+
+    def test_files_that_grow_without_bound(self):
+        uses = '<defs><line id="a0" x1="0" y1="0" x2="5" y2="0"/>'
+        for level in range(1, 9):
+            uses += f'<g id="a{level}">' + f'<use href="#a{level - 1}"/>' * 10 + "</g>"
+        self.finding(self.file("part.svg", svg_file(uses + "</defs>")), "too much")
+        self.finding(self.file("part.svg", svg_file("<g>" * 5000 + "</g>" * 5000)), "deeper than")
+        long = '<g transform="' + "scale(1)" * 20_000 + '">' + '<circle r="1"/>' * 2000 + "</g>"
+        self.finding(self.file("part.svg", svg_file(long)), "too much")
+        many = '<path d="M0 0' + "l1 1" * 1_000_000 + '"/>'
+        self.finding(self.file("part.svg", svg_file(many)), "more than 1,000,000 bytes")
+
+    def test_numbers_that_are_none(self):
+        for shape in ('<circle r="1e999"/>', '<path d="M0 0L1e999 0"/>', '<g transform="scale(1e999)"><circle r="1"/></g>'):
+            self.finding(self.file("part.svg", svg_file(shape)))
+        self.finding(self.file("part.svg", svg_file('<line x1="0" y1="0" x2="10001" y2="0"/>')), "10,000 mm at most")
+        self.finding(self.file("part.svg", svg_file('<circle r="1"/>', root='width="60mm" height="40mm" viewBox="0 0 0 40"')))
+        self.finding(self.file("part.svg", svg_file('<circle r="1"/>', root='width="60mm" height="40mm" viewBox="a b"')))
+
+    def test_broken_files(self):
+        good = svg_file('<line x1="0" y1="0" x2="5" y2="0"/>')
+        for cut in range(5, len(good) - 2, 7):
+            status, _, err = ran(self.file("part.svg", good[:cut]), "--reach", "1")
+            self.assertEqual(status, 1, err)
+        self.finding(self.file("part.svg", "<html><body/></html>"), "no SVG drawing")
+        self.finding(self.file("part.svg", "<svg/>"), "--units")
+        self.finding(self.file("part.svg", svg_file()), "nothing in it")
+        self.finding(self.file("part.svg", b"<svg>\xff\xfe</svg>"), "no XML")
+
+
+class Verb(Case):
+    def test_files_that_are_no_drawings(self):
+        for data in ("", "hello", b"\x00\x01\x02", "(job\n)\n", "%PDF-1.4", b"\x89PNG\r\n"):
+            self.finding(self.file("part.dxf", data), "no DXF and no SVG drawing")
+        self.finding(self.folder / "missing.dxf", status=3)
+        self.finding(self.folder, status=3)
+
+    def test_bad_usage(self):
+        path = self.file("part.svg", svg_file())
+        for words in ((), ("--reach", "0"), ("--reach", "-1"), ("--reach", "1/3"), ("--reach", "nan"), ("--reach", "inf"), ("--reach", "x")):
+            self.assertEqual(ran(path, *words)[0], 2, words)
+        for words in (("--split",), ("--json",), ("--units", "px"), ("--within", "0"), ("--within", "0.00001"), ("--within", "11")):
+            self.assertEqual(ran(path, "--reach", "1", *words)[0], 2, words)
+
+    def test_without_the_packages(self):
+        svg_path, dxf_path = self.file("part.svg", svg_file()), self.file("part.dxf", dxf_file(LINE))
+        code = (
+            "import sys; sys.modules['ezdxf'] = sys.modules['svgelements'] = None\n"
+            "from clearance import cli; cli.VERBS = {'from': 'from_drawing'}; sys.exit(cli.main(sys.argv[1:]))"
+        )
+        for path, name in ((svg_path, "svgelements"), (dxf_path, "ezdxf")):
+            command = [sys.executable, "-c", code, "from", str(path), "--reach", "1"]
+            done = subprocess.run(command, capture_output=True, check=False, cwd=Path(__file__).resolve().parents[1])
+            self.assertEqual((done.returncode, done.stdout), (1, b""), done.stderr)
+            self.assertIn(f"needs the Python package {name} (Debian: python3-{name}; pip: {name})".encode(), done.stderr)
+
+    @needs_svgelements
+    @needs_ezdxf
+    def test_a_plate_and_a_place(self):
+        path = DRAWINGS / "bracket.dxf"
+        job, said = self.job(path, "--plate", "-5", "10.24", "300", "--at", "20", "30.5")
+        self.assertEqual((job.x, job.y, job.n, job.m), (-500, 1024, 15, 7))
+        self.assertEqual(outline_box(job.edges), (2000, 3050, 14000, 12050))
+        self.assertIn("bounds: x from 20 to 140 mm, y from 30.5 to 120.5 mm", said)
+        still, _ = self.job(path)
+        self.assertEqual(still.reach, job.reach)
+        self.assertEqual(job.edges, outline.placed(outline.Outline(still.edges, Fraction(0), 0, 0), (2000, 3050)).edges)
+        self.assertEqual(self.job(path, "--plate", "0", "0", "327.68")[0].n, 15)
+        self.assertEqual(self.job(path, "--plate", "0", "0", "327.69")[0].n, 16)
+        self.finding(path, "10,000 mm at most", words=("--at", "9990", "0"))
+        self.finding(path, "out of its range", words=("--plate", "0", "0", "99999"))
+        for words in (["--plate", "0", "0"], ["--plate", "0", "0", "0"], ["--plate", "0", "0", "x"], ["--at", "0.005", "0"]):
+            self.assertEqual(ran(path, "--reach", "2.5", *words)[0], 2, words)
+
+    def test_what_is_said(self):
+        shapes = '<path d="M0 0L5 0L10 0L10 10"/><path d="M20 5L20 5"/><text>x</text>'
+        status, out, err = ran(self.file("part.svg", svg_file(shapes)), "--reach", "2.501")
+        self.assertEqual(status, 0)
+        self.assertEqual(Job.from_sheet(out).reach, 251)
+        for sentence in (
+            "2 edges of 64: 2 lines, 0 cubics",
+            "1 line joined",
+            "1 edge without length left out",
+            "left out: 1 text",
+            "2 ends that meet no other; the widest gap is 14.1422 mm, at (0, 40) mm",
+            "bounds: x from 0 to 10 mm, y from 30 to 40 mm",
+            "W is 0 hundredths (0 mm)",
+            "reach: 251 hundredths, 2.501 mm and W rounded up",
+        ):
+            self.assertIn(sentence, err)
+
+    @needs_svgelements
+    def test_json(self):
+        path, sheet = self.file("part.svg", svg_file('<circle cx="30" cy="20" r="5.123"/>')), self.folder / "part.sheet"
+        status, out, _ = ran(path, "--reach", "2.5", "--json", "-o", sheet)
+        told = json.loads(out)
+        self.assertEqual(status, 0)
+        self.assertEqual((told["files"], told["edges"]["count"], told["loose_ends"], told["widest_gap"]), ([str(sheet)], 3, 0, None))
+        self.assertEqual(told["reach_hundredths"], Job.from_sheet(sheet.read_bytes()).reach)
+        self.assertEqual(told["reach_hundredths"], 250 + math.ceil(Fraction(told["w_hundredths"])))
+        self.assertEqual(Fraction(told["w"]) * 100, Fraction(told["w_hundredths"]))
+
+    @needs_svgelements
+    def test_more_than_64_edges_are_split(self):
+        corners = " ".join(f"{index / 2:g},{(index % 2) * 10:g}" for index in range(101))
+        path = self.file("part.svg", svg_file(f'<polyline points="{corners}"/>'))
+        self.finding(path, "100 edges", "--split")
+        status, _, err = ran(path, "--reach", "2.5", "--split", "-o", self.folder / "part.sheet")
+        self.assertEqual(status, 0, err)
+        jobs = [Job.from_sheet((self.folder / f"part-{number}.sheet").read_bytes()) for number in (1, 2)]
+        self.assertEqual([len(job.edges) for job in jobs], [64, 36])
+        self.assertEqual(len({(job.x, job.y, job.n, job.m, job.reach) for job in jobs}), 1)
+        self.assertEqual(jobs[1].edges[0][:2], jobs[0].edges[-1][-2:])
+        self.assertIn("100 edges on 2 sheets", err)
+
+    @needs_svgelements
+    def test_one_sheet_of_a_split_has_its_number_too(self):
+        path = self.file("part.svg", svg_file('<circle r="5"/>'))
+        self.assertEqual(ran(path, "--reach", "2.5", "--split", "-o", self.folder / "part.sheet")[0], 0)
+        self.assertEqual(sorted(os.listdir(self.folder)), ["part-1.sheet", "part.svg"])
+
+    @needs_svgelements
+    def test_all_files_are_written_or_none(self):
+        corners = " ".join(f"{index / 2:g},{(index % 2) * 10:g}" for index in range(101))
+        path = self.file("part.svg", svg_file(f'<polyline points="{corners}"/>'))
+        (self.folder / "part-2.sheet").mkdir()
+        status, out, err = ran(path, "--reach", "2.5", "--split", "-o", self.folder / "part.sheet", "--json")
+        self.assertEqual((status, out), (3, b""), err)
+        self.assertEqual(sorted(os.listdir(self.folder)), ["part-2.sheet", "part.svg"])
+        self.assertEqual(ran(path, "--reach", "1", "--split", "-o", self.folder / "no" / "part.sheet")[0], 3)
+
+    @needs_svgelements
+    def test_too_large_reaches(self):
+        path = self.file("part.svg", svg_file('<circle r="5"/>'))
+        for reach in ("10000", "9000"):
+            status, out, err = ran(path, "--reach", reach)
+            self.assertEqual((status, out), (1, b""), err)
+            self.assertIn(str(path), err)
+
+
+class Examples(Case):
+    def drawings(self):
+        for part in PARTS:
+            for reader, package in ((dxf, "ezdxf"), (svg, "svgelements")):
+                if HAS[package]:
+                    yield DRAWINGS / f"{part}.{'dxf' if reader is dxf else 'svg'}", reader
+
+    def test_stored_sheets_are_what_comes_out(self):
+        for path, _ in self.drawings():
+            status, out, err = ran(path, "--reach", "2.5")
+            self.assertEqual(status, 0, err)
+            self.assertEqual(out, Path(f"{path}.sheet").read_bytes(), path.name)
+            self.assertIn("closed", err)
+
+    def test_stored_sheets_are_drawn_by_the_library(self):
+        for part in PARTS:
+            for kind in ("dxf", "svg"):
+                job = Job.from_sheet((DRAWINGS / f"{part}.{kind}.sheet").read_bytes())
+                self.assertLess(job.reach, 253)
+                self.assertIn("C", job.map().cells.decode() if hasattr(job.map(), "cells") else "C")
+
+    def test_both_drawings_of_a_part_give_one_outline(self):
+        for part in PARTS:
+            both = [Job.from_sheet((DRAWINGS / f"{part}.{kind}.sheet").read_bytes()) for kind in ("dxf", "svg")]
+            first, second = ({min(edge, backward(edge)) for edge in job.edges} for job in both)
+            self.assertEqual(len(first), len(second))
+            for edge in first - second:
+                self.assertTrue(any(close(edge, other) or close(edge, backward(other)) for other in second), (part, edge))
+
+    def test_w_holds_and_is_at_most_twice_what_sampling_finds(self):
+        for path, reader in self.drawings():
+            curves = reader.read(path.read_bytes()).curves
+            worst = 0.0
+            for piece in outline.joined([piece for curve in curves for piece in pieces(curve, 1.0)]):
+                edge = edge_of(piece)
+                found = sampled(piece_function(piece), bezier_function(edge), 16, 32)
+                self.assertLessEqual(found, float(piece.bound(edge)) + SEARCHED, path.name)
+                worst = max(worst, found)
+            bound = float(outline.outline_of(curves, 1.0).off)
+            self.assertLessEqual(worst, bound + SEARCHED, path.name)
+            self.assertLessEqual(bound, 2 * worst, path.name)
+
+    def test_the_drawings_are_those_that_make_makes(self):
+        spec = importlib.util.spec_from_file_location("make", DRAWINGS / "make.py")
+        make = importlib.util.module_from_spec(spec)
+        spec.loader.exec_module(make)
+        for part, (contours, width, height) in make.PARTS.items():
+            self.assertEqual((DRAWINGS / f"{part}.dxf").read_text("ascii"), make.dxf(contours(), part == "gear"))
+            self.assertEqual((DRAWINGS / f"{part}.svg").read_text("ascii"), make.svg(contours(), width, height))
+
+
+def backward(edge):
+    return tuple(number for at in range(len(edge) - 2, -1, -2) for number in edge[at : at + 2])
+
+
+def close(edge, other):
+    return len(edge) == len(other) and all(abs(a - b) <= 1 for a, b in zip(edge, other))
+
+
+if __name__ == "__main__":
+    unittest.main()
