@@ -76,6 +76,15 @@ def drawn_of(given, store=library.STORE_MOST):
         raise refusal(given.path, given.data, refused.number, store) from refused
 
 
+def same_plate(first, given):
+    """Sheets of one map have one plate and one cell."""
+    for name in ("x", "y", "n", "m"):
+        if getattr(first.job, name) != getattr(given.job, name):
+            number = getattr(given.sheet, name)
+            where = console.at(given.path, number.line, number.column)
+            raise console.found(f"{where}: another plate or cell than {first.path}, and one map is of one plate")
+
+
 def one_standard_input(*paths):
     """Standard input can be read once."""
     if paths.count("-") > 1:

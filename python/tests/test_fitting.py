@@ -53,7 +53,8 @@ def piece_function(piece, spline=None):
         return bezier_function(piece.control)
     if isinstance(piece, ArcPiece):
         return lambda t: piece.arc.point(piece.first + piece.sweep * t)
-    return lambda t: spline_point(spline, min(piece.start + (piece.end - piece.start) * t, spline.knots[len(spline.points)]))
+    start, end = piece.follower.start, piece.follower.end
+    return lambda t: spline_point(spline, min(start + (end - start) * t, spline.knots[len(spline.points)]))
 
 
 def nearest(curve, samples, point):
@@ -251,7 +252,7 @@ class Splines(unittest.TestCase):
         points = exact(*((1000 * x, 1000 * y) for x, y in square))
         spline = Spline(2, (0.0,) * 3 + (1.0,) * 2 + (2.0,) * 2 + (3.0,) * 2 + (4.0,) * 3, points, (1.0, half) * 4 + (1.0,))
         parts = self.check(spline, 1.0)
-        self.assertLessEqual(len(parts), 12)
+        self.assertLessEqual(len(parts), 9)
 
     def test_unclamped_knots(self):
         spline = Spline(3, tuple(map(float, range(9))), exact((0, 0), (900, 2000), (1800, -500), (2700, 900), (3600, 0)), (1.0,) * 5)

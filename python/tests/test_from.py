@@ -275,8 +275,8 @@ class Dxf(Case):
             self.assertEqual(self.job(self.file("part.dxf", data))[0].edges, ((0, 0, 1000, 500),))
 
     def test_splines_of_too_many_points(self):
-        many = newer("SPLINE", "AcDbSpline", (70, 8), (71, 3), *[(40, i) for i in range(1104)], *points(10, *[(i, i % 7, 0) for i in range(1100)]))
-        self.finding(self.file("part.dxf", dxf_file(many)), "more than 1,000 control points")
+        many = newer("SPLINE", "AcDbSpline", (70, 8), (71, 3), *[(40, i) for i in range(504)], *points(10, *[(i, i % 7, 0) for i in range(501)]))
+        self.finding(self.file("part.dxf", dxf_file(many)), "more than 500 control points")
         high = newer("SPLINE", "AcDbSpline", (70, 8), (71, 40), *[(40, 0)] * 41, *[(40, 1)] * 41, *points(10, *[(i, i % 7, 0) for i in range(41)]))
         self.finding(self.file("part.dxf", dxf_file(high)), "the degree 40")
 
@@ -481,7 +481,6 @@ class Verb(Case):
             self.assertEqual((done.returncode, done.stdout), (1, b""), done.stderr)
             self.assertIn(f"needs the Python package {name} (Debian: python3-{name}; pip: {name})".encode(), done.stderr)
 
-    @needs_svgelements
     @needs_ezdxf
     def test_a_plate_and_a_place(self):
         path = DRAWINGS / "bracket.dxf"
@@ -499,6 +498,7 @@ class Verb(Case):
         for words in (["--plate", "0", "0"], ["--plate", "0", "0", "0"], ["--plate", "0", "0", "x"], ["--at", "0.005", "0"]):
             self.assertEqual(ran(path, "--reach", "2.5", *words)[0], 2, words)
 
+    @needs_svgelements
     def test_what_is_said(self):
         shapes = '<path d="M0 0L5 0L10 0L10 10"/><path d="M20 5L20 5"/><text>x</text>'
         status, out, err = ran(self.file("part.svg", svg_file(shapes)), "--reach", "2.501")

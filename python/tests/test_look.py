@@ -265,6 +265,21 @@ class Look(unittest.TestCase):
         ]:
             self.assertEqual(self.look(self.sheet, self.map, *option), (0, wanted, ""))
 
+    def test_several_sheets_of_one_plate(self):
+        other = SHEET.replace(EDGE, b"(line (4 4) (6 6))\n").replace(b"(reach 4)", b"(reach 2)")
+        one, two = self.folder.file("one.sheet", SHEET), self.folder.file("two.sheet", other)
+        status, svg, said = command("look", one, "--also", two)
+        self.assertEqual((status, said), (0, ""))
+        both = command("map", one, two)[1]
+        self.assertEqual(svg, command("look", one, self.folder.file("both.map", both.encode()), "--also", two)[1])
+        self.assertNotEqual(both, command("map", one)[1])
+        self.assertIn("M12 12L14 14", svg)
+        self.assertEqual(command("look", one, "--also", two, "--html")[:2], (2, ""))
+        odd = self.folder.file("odd.sheet", SHEET.replace(b"(cell 1)", b"(cell 2)"))
+        status, svg, said = command("look", one, "--also", odd)
+        self.assertEqual((status, svg), (1, ""))
+        self.assertIn("odd.sheet:3:7: another plate or cell", said)
+
     def test_the_longest_map(self):
         longest = striped_map(256)
         self.assertEqual(len(longest), 67_339)

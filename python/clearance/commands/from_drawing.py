@@ -22,9 +22,9 @@ of the sheet proves, it proves of the sheet's curves; W says how far these are f
 sheet's reach is the one that is asked for and W, rounded up. So a C cell keeps the reach that is asked for from the
 drawing itself. W is derived and not sampled; it is 0 where all lines and cubics have whole hundredths.
 
-The numbers of a drawing are taken to the nearest 10^-6 of a hundredth of a millimetre. Arcs, circles, ellipses and splines
-are followed by as few cubics as stay within --within of them, before these are rounded. Lines that go on exactly straight are joined;
-edges without length are left out. Plate, cell and grain are those of `clearance advise`, but for a plate that is given.
+The numbers of a drawing are taken to the nearest 10^-6 of a hundredth of a millimetre. Circles and their arcs are followed
+by the fewest standard cubics that stay within --within of them, ellipses and splines by cubics that do, before these are
+rounded. Lines that go on exactly straight are joined; edges without length are left out. Plate, cell and grain are those of `clearance advise`, but for a plate that is given.
 
 DXF, read by the package ezdxf: the model space, LINE, LWPOLYLINE, POLYLINE, ARC, CIRCLE, ELLIPSE, SPLINE and INSERT, all
 in the plane z = 0, on all layers. SVG, read by the package svgelements: all shapes and paths, by their centre lines, y upward

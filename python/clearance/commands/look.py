@@ -3,18 +3,21 @@
 import argparse
 import os
 import re
+from dataclasses import replace
 
 from .. import console, inputs, page, picture
+from ..maps import joined
 
 SUMMARY = "a picture of a map: SVG, or an HTML page that tells about each cell"
 DESCRIPTION = """\
 Writes a picture of a sheet and its map: the cells, the outline over them, and axes with the drawing's own x and y in
-millimetres. Without MAP the library draws the map.
+millimetres. Without MAP the library draws the map, of several sheets of one plate (--also) as `clearance map` does.
 """
 EXAMPLES = """\
   clearance look bracket.sheet -o bracket.svg
   clearance look bracket.sheet bracket.map --html -o bracket.html
   clearance look bracket.sheet --overlay > over-the-drawing.svg
+  clearance look flange.sheet --also bracket.sheet -o plate.svg
 """
 OVERLAY = """\
 the cells alone, see-through, to be laid over another SVG: a unit is a millimetre, x is the drawing's x, and y is turned over: \
@@ -36,6 +39,7 @@ def width(word):
 
 def arguments(parser):
     add_files(parser)
+    parser.add_argument("--also", metavar="SHEET", action="append", default=[], help="a further sheet of the same plate; may be given again")
     parser.add_argument("-o", "--output", metavar="FILE", default="-", help="where the picture is written (standard output)")
     kind = parser.add_mutually_exclusive_group()
     kind.add_argument("--actual", action="store_true", help="true size: printed at 100 %%, the plate's side is as long as it is in metal")
@@ -58,7 +62,9 @@ def add_files(parser):
 
 
 def check_usage(asked):
-    inputs.one_standard_input(asked.sheet, asked.map)
+    inputs.one_standard_input(asked.sheet, asked.map, *asked.also)
+    if asked.also and asked.html:
+        raise console.misused("--also does not go with --html: a page has the bounds of one sheet")
     if asked.outline and not asked.overlay:
         raise console.misused("--outline goes with --overlay; the other pictures have the outline")
     if asked.overlay and (asked.width or asked.grid):
@@ -71,21 +77,32 @@ def shown_name(path):
     return name.encode("utf-8", "replace").decode("utf-8")
 
 
-def made(asked, given, rows):
+def made(asked, given, others, rows):
     """What is asked for, as text."""
+    outlines = replace(given.job, edges=sum((other.job.edges for other in others), given.job.edges))
     if asked.overlay:
-        return picture.overlay(given.job, rows, asked.outline)
+        return picture.overlay(outlines, rows, asked.outline)
     wide = asked.width or picture.DEFAULT_WIDTH
-    svg = picture.picture(given.job, rows, wide, asked.grid, asked.actual)
+    svg = picture.picture(outlines, rows, wide, asked.grid, asked.actual)
     if not asked.html:
         return svg
     source = "The letters are the library's." if asked.map is None else "The letters are those of the map file that was given."
     return page.page(shown_name(given.path), source, svg, wide, inputs.drawn_of(given), rows)
 
 
+def rows_of(asked, given, others):
+    """The rows of the map that is shown: the file's, or of all sheets by the library."""
+    if asked.map is not None or not others:
+        return inputs.rows_of(asked.map, given)
+    return joined([inputs.drawn_of(one).map for one in (given, *others)]).rows
+
+
 def run(asked):
     check_usage(asked)
     given = inputs.load_sheet(asked.sheet)
-    rows = inputs.rows_of(asked.map, given)
-    console.write_bytes(asked.output, made(asked, given, rows).encode("utf-8"))
+    others = [inputs.load_sheet(path) for path in asked.also]
+    for other in others:
+        inputs.same_plate(given, other)
+    rows = rows_of(asked, given, others)
+    console.write_bytes(asked.output, made(asked, given, others, rows).encode("utf-8"))
     return console.DONE

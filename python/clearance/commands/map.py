@@ -55,7 +55,7 @@ def one_map(asked):
             progress.step(index, path)
             given, found = drawn(path, asked.store)
             sheets.append(given)
-            same_plate(sheets[0], given)
+            inputs.same_plate(sheets[0], given)
             maps.append(found)
     except inputs.RefusedSheet as refused:
         console.put(refusal_text(refused.number))
@@ -64,15 +64,6 @@ def one_map(asked):
         progress.end()
     console.put((maps[0] if len(maps) == 1 else joined(maps)).text())
     return console.DONE
-
-
-def same_plate(first, given):
-    """Sheets of one map have one plate and one cell."""
-    for name in ("x", "y", "n", "m"):
-        if getattr(first.job, name) != getattr(given.job, name):
-            number = getattr(given.sheet, name)
-            where = console.at(given.path, number.line, number.column)
-            raise console.found(f"{where}: another plate or cell than {first.path}; -o DIR draws a map of each sheet")
 
 
 def named(path, folder):

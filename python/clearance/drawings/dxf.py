@@ -17,7 +17,7 @@ from .reading import PARTS_MOST, UNITS, Drawing, package
 BLOCKS_DEEP_MOST = 50
 # Measured: following splines of so many control points takes about 5 s. Those that are one Bézier do not count, and those
 # with weights or a degree above 3 count twice.
-SPLINE_POINTS_MOST = 1000
+SPLINE_POINTS_MOST = 500
 BINARY = b"AutoCAD Binary DXF\r\n\x1a\x00"
 
 # The units of the header's $INSUNITS that have one length, in hundredths of a millimetre.

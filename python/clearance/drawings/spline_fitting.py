@@ -1,15 +1,16 @@
 """Cubics for B-splines, rational ones too, of any degree.
 
 On each of its spans, between two knots, a spline is a polynomial, or for a rational one a quotient of polynomials N / w. A
-piece from a to b is replaced by the cubic H that has the curve's ends and derivatives at a and b. On each span within the
-piece H w - N is a polynomial; with its coefficients, and the least of w, the distance of H and the curve at one parameter is
-bounded (bernstein.py), and that pairs the points of both. The same is done with the rounded edge in place of H.
+piece from a to b is replaced by a cubic H that has the curve's ends and the directions of its tangents there. H is gone along
+at a pace of its own: f is a cubic from 0 to 1 whose coefficients 0, p/3, 1 - q/3, 1 do not go down, so f does not go down either
+(its derivative's coefficients are their differences), and C(t) and H(f(t)) are a pair, of all points of both. On each span within the piece H(f) w - N is a polynomial; with its
+coefficients, and the least of w, the distance of the pairs is bounded (bernstein.py). The same is done with the rounded edge in place of H.
 
 The pieces are taken as long as bisection finds them to stay within what is asked, and end at every corner.
 """
 
 import math
-from dataclasses import dataclass
+from dataclasses import dataclass, replace
 from fractions import Fraction
 
 from . import bernstein
@@ -103,7 +104,7 @@ def following(spline, within):
         start = group[0].start
         while start < group[-1].end:
             end = farthest(group, start, within, doubt)
-            found.append(SplinePiece(tuple(cut(group, start, end)), start, end, doubt))
+            found.append(SplinePiece(tuple(cut(group, start, end)), fit(group, start, end, within), doubt))
             start = end
             if len(found) > PIECES_MOST:
                 raise Unusable(f"a spline needs more than {PIECES_MOST:,} cubics")
@@ -113,12 +114,12 @@ def following(spline, within):
 def slack(spline):
     """What double arithmetic may put a bound off by.
 
-    From the control points to a coefficient there are fewer than 16 (degree + 4) steps one after another, each within 2^-52 of the
-    largest number, a coordinate times a weight; the result is divided by the least weight.
+    From the control points to a coefficient there are fewer than 64 (degree + 10) steps one after another, each within 2^-52
+    of the largest number, a coordinate times a weight; the result is divided by the least weight.
     """
     largest = max(abs(float(number)) for point in spline.points for number in point)
     spread = max(spline.weights) / min(spline.weights)
-    return 2.0**-52 * 16 * (spline.degree + 4) * largest * spread
+    return 2.0**-52 * 64 * (spline.degree + 10) * largest * spread
 
 
 def place(rows, index):
@@ -165,65 +166,126 @@ def cut(group, start, end):
     return found
 
 
+@dataclass(frozen=True)
+class Follower:
+    """A cubic for a curve from start to end: its control points, and the coefficients of its pace, None where that is even."""
+
+    control: tuple
+    start: float
+    end: float
+    pace: tuple = None
+
+    def on(self, part):
+        """The rows of x and y of the cubic on a part of the curve, at its pace."""
+        length = self.end - self.start
+        ends = (part.start - self.start) / length, (part.end - self.start) / length
+        axes = [[point[axis] for point in self.control] for axis in (0, 1)]
+        if self.pace is None:
+            return [bernstein.between(row, *ends) for row in axes]
+        far = bernstein.between(self.pace, *ends)
+        near = [1 - value for value in far]
+        near_two, far_two = bernstein.product(near, near), bernstein.product(far, far)
+        shares = [bernstein.product(*pair) for pair in ((near_two, near), (near_two, far), (near, far_two), (far_two, far))]
+        return [[sum(c * x * y for c, x, y in zip((1, 3, 3, 1), row, column)) for column in zip(*shares)] for row in axes]
+
+    def off(self, part, times):
+        """A bound on the distance of its pairs on a part of the curve."""
+        xs, ys, ws = part.rows
+        x, y = self.on(part)
+        ones = [1.0] * len(x)
+        rows = [[a - b for a, b in zip(bernstein.product(mine, ws), bernstein.product(ones, its))] for mine, its in ((x, xs), (y, ys))]
+        parts = bernstein.halved([*rows, bernstein.product(ones, ws)], times)
+        return max(max(math.hypot(a, b) for a, b in zip(dx, dy)) / min(w) for dx, dy, w in parts)
+
+    def off_middle(self, part):
+        """The distance of the pair at a part's middle."""
+        x, y, xs, ys, ws = (bernstein.halves(row)[0][-1] for row in (*self.on(part), *part.rows))
+        return math.hypot(x - xs / ws, y - ys / ws)
+
+    def stays(self, parts, within):
+        """Whether it stays within so much: what one point shows first, then the quick bound, then the closer one."""
+        if any(self.off_middle(part) > within for part in parts):
+            return False
+        return all(self.off(part, 0) <= within or self.off(part, HALVINGS) <= within for part in parts)
+
+
 def hermite(parts, start, end):
-    """The cubic with the ends and the end derivatives of the curve."""
+    """The cubic with the ends and the end derivatives of the curve, at an even pace."""
     first, last = parts[0], parts[-1]
     degree = len(first.rows[0]) - 1
     out, back = toward(first.rows, 1, 0), toward(last.rows, -1, -2)
     forth = (end - start) / 3 * degree / (first.end - first.start) * first.rows[2][1] / first.rows[2][0]
     home = (end - start) / 3 * degree / (last.end - last.start) * last.rows[2][-2] / last.rows[2][-1]
     p, q = place(first.rows, 0), place(last.rows, -1)
-    return p, (p[0] + forth * out[0], p[1] + forth * out[1]), (q[0] - home * back[0], q[1] - home * back[1]), q
+    control = p, (p[0] + forth * out[0], p[1] + forth * out[1]), (q[0] - home * back[0], q[1] - home * back[1]), q
+    return Follower(control, start, end)
 
 
-def off_one(control, part, start, end, times):
-    """A bound on the distance of a cubic, from start to end, from a part of a curve, at each parameter of the part."""
-    length = end - start
-    ends = (part.start - start) / length, (part.end - start) / length
-    x, y = (bernstein.between([point[axis] for point in control], *ends) for axis in (0, 1))
-    xs, ys, ws = part.rows
-    ones = [1.0] * 4
-    rows = [
-        [a - b for a, b in zip(bernstein.product(cubic, ws), bernstein.product(ones, curve))] for cubic, curve in ((x, xs), (y, ys))
-    ]
-    return max(
-        max(math.hypot(a, b) for a, b in zip(dx, dy)) / min(w) for dx, dy, w in bernstein.halved([*rows, bernstein.product(ones, ws)], times)
-    )
+def through_middle(even, parts):
+    """The cubic with other handles that goes through the curve's point in the middle of its pace, or None.
+
+    With handles a and b times as long its pace has the slopes 1/a and 1/b at its ends: then the derivatives agree there too.
+    Its middle is (p + q) / 2 + 3/8 (a d - b e), d and e the even one's handles, which gives a and b. Where the pace's middle is they tell in turn.
+    """
+    (p, p_out, q_in, q), middle, pace = even.control, 0.5, None
+    (dx, dy), (ex, ey) = ((b[0] - a[0], b[1] - a[1]) for a, b in ((p, p_out), (q_in, q)))
+    across = dx * ey - dy * ex
+    for _ in range(3):
+        x, y = curve_point(parts, even.start + (even.end - even.start) * middle)
+        x, y = 8 / 3 * (x - (p[0] + q[0]) / 2), 8 / 3 * (y - (p[1] + q[1]) / 2)
+        if across == 0 or (x * ey - y * ex) / across <= 0 or (x * dy - y * dx) / across <= 0:
+            return None
+        a, b = (x * ey - y * ex) / across, (x * dy - y * dx) / across
+        if 1 / a + 1 / b > 3:
+            return None
+        pace = 0.0, 1 / (3 * a), 1 - 1 / (3 * b), 1.0
+        middle = where_half(pace)
+    control = p, (p[0] + a * dx, p[1] + a * dy), (q[0] - b * ex, q[1] - b * ey), q
+    return Follower(control, even.start, even.end, pace)
 
 
-def fits(group, start, end, within):
-    """Whether the cubic from start to end stays within so much: what one point shows first, then the quick bound, then the closer one."""
+def where_half(pace):
+    """Where a pace is 1/2, about."""
+    low, high = 0.0, 1.0
+    for _ in range(30):
+        middle = (low + high) / 2
+        low, high = (middle, high) if bernstein.split(pace, middle)[0][-1] < 0.5 else (low, middle)
+    return low
+
+
+def curve_point(parts, parameter):
+    part = next((part for part in parts if parameter <= part.end), parts[-1])
+    at = (parameter - part.start) / (part.end - part.start)
+    x, y, w = (bernstein.split(row, at)[0][-1] for row in part.rows)
+    return x / w, y / w
+
+
+def fit(group, start, end, within):
+    """A cubic from start to end that stays within so much, or None."""
     parts = cut(group, start, end)
-    control = hermite(parts, start, end)
-    if any(off_middle(control, part, start, end) > within for part in parts):
-        return False
-    return all(off_one(control, part, start, end, 0) <= within or off_one(control, part, start, end, HALVINGS) <= within for part in parts)
-
-
-def off_middle(control, part, start, end):
-    """The distance of a cubic from a part of a curve at the part's middle."""
-    at = ((part.start + part.end) / 2 - start) / (end - start)
-    x, y = (bernstein.split([point[axis] for point in control], at)[0][-1] for axis in (0, 1))
-    xs, ys, ws = (bernstein.halves(row)[0][-1] for row in part.rows)
-    return math.hypot(x - xs / ws, y - ys / ws)
+    even = hermite(parts, start, end)
+    if even.stays(parts, within):
+        return even
+    other = through_middle(even, parts)
+    return other if other is not None and other.stays(parts, within) else None
 
 
 def farthest(group, start, within, doubt):
     """The end of the longest piece from start on that bisection finds: among the knots first, then between two of them."""
     ends = [span.end for span in group if span.end > start]
     good, high = 0, 1
-    while high <= len(ends) and fits(group, start, ends[high - 1], within):
+    while high <= len(ends) and fit(group, start, ends[high - 1], within):
         good, high = high, 2 * high
     high = min(high, len(ends) + 1)
     while high - good > 1:
         middle = (good + high) // 2
-        good, high = (middle, high) if fits(group, start, ends[middle - 1], within) else (good, middle)
+        good, high = (middle, high) if fit(group, start, ends[middle - 1], within) else (good, middle)
     if good == len(ends):
         return ends[-1]
     low, high = (ends[good - 1] if good else start), ends[good]
     for _ in range(BISECTIONS):
         middle = (low + high) / 2
-        low, high = (middle, high) if fits(group, start, middle, within) else (low, middle)
+        low, high = (middle, high) if fit(group, start, middle, within) else (low, middle)
     if low <= start:
         raise Unusable(f"a spline cannot be followed within {within / 100:g} mm; its numbers are good for {doubt / 100:.1e} mm")
     return low
@@ -234,14 +296,14 @@ class SplinePiece:
     """The cubic for a part of a spline."""
 
     parts: tuple
-    start: float
-    end: float
+    follower: Follower
     doubt: float
 
     @property
     def control(self):
-        return hermite(self.parts, self.start, self.end)
+        return self.follower.control
 
     def bound(self, edge):
-        found = max(off_one(edge, part, self.start, self.end, HALVINGS) for part in self.parts)
+        """The bound of the edge that takes the cubic's place, at the cubic's pace."""
+        found = max(replace(self.follower, control=edge).off(part, HALVINGS) for part in self.parts)
         return up(found + self.doubt)
