@@ -13,7 +13,8 @@ HERE = Path(__file__).resolve().parent
 
 def number(value):
     """A number of at most four decimals, as short as it goes."""
-    return f"{value:.4f}".rstrip("0").rstrip(".").replace("-0", "0") if abs(value) < 5e-5 else f"{value:.4f}".rstrip("0").rstrip(".")
+    text = f"{value:.4f}".rstrip("0").rstrip(".")
+    return "0" if text == "-0" else text
 
 
 def place(radius, degrees, centre=(0, 0)):

@@ -8,6 +8,8 @@ from math import isqrt
 FINE_A_MILLIMETRE = 1600
 # Distances are told in ten-thousandths of a millimetre; a fine unit is 6.25 of them.
 PLACES = 4
+# No length has so many digits in front of its point or behind it.
+LARGEST = 50
 
 
 def millimetres(hundredths):
@@ -20,10 +22,14 @@ def hundredths(length):
     A float is taken as the shortest decimal that names it, so 0.29 is 29 hundredths.
     """
     try:
-        exact = Fraction(Decimal(repr(length)) if isinstance(length, float) else length)
-    except (InvalidOperation, ValueError, OverflowError) as error:
+        text = repr(float(length)) if isinstance(length, float) else length
+        exact = Decimal(text) if isinstance(text, (str, Decimal)) else Fraction(text)
+    except (InvalidOperation, ValueError, TypeError) as error:
         raise ValueError(f"{length} is no length in millimetres") from error
-    found = exact * 100
+    # The exponent is looked at first: a fraction of 1e999999999 would take all memory.
+    if isinstance(exact, Decimal) and not (exact.is_finite() and -LARGEST < exact.adjusted() < LARGEST):
+        raise ValueError(f"{length} is no length in millimetres")
+    found = Fraction(exact) * 100
     if found.denominator != 1:
         raise ValueError(f"{length} mm is no whole number of hundredths of a millimetre")
     return found.numerator

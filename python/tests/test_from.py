@@ -1,11 +1,10 @@
 """Tests of the verb `from`: job sheets from DXF and SVG drawings."""
 
-import contextlib
 import importlib.util
-import io
 import json
 import math
 import os
+import random
 import subprocess
 import sys
 import tempfile
@@ -14,12 +13,12 @@ from fractions import Fraction
 from pathlib import Path
 from unittest import mock
 
-from clearance import cli
 from clearance.bounds import outline_box
 from clearance.drawings import dxf, outline, svg, svg_check
 from clearance.drawings.fitting import pieces
 from clearance.job import Job
 
+from .samples import command_bytes
 from .test_fitting import SEARCHED, bezier_function, edge_of, piece_function, sampled
 
 DRAWINGS = Path(__file__).resolve().parents[2] / "examples" / "drawings"
@@ -41,16 +40,8 @@ needs_svgelements = unittest.skipUnless(HAS["svgelements"], "the package svgelem
 
 
 def ran(*words):
-    """Status, standard output and standard error of the command."""
-    out, err = io.TextIOWrapper(io.BytesIO()), io.StringIO()
-    with mock.patch.dict(cli.VERBS, {"from": "from_drawing"}, clear=True), mock.patch("sys.stdout", out):
-        with contextlib.redirect_stderr(err):
-            try:
-                status = cli.main(["from", *map(str, words)])
-            except SystemExit as ended:
-                status = ended.code
-    out.flush()
-    return status, out.buffer.getvalue(), err.getvalue()
+    """Status, standard output and standard error of the verb."""
+    return command_bytes("from", *words)
 
 
 class Case(unittest.TestCase):
@@ -110,8 +101,8 @@ def dxf_file(*entities, units=4, blocks=""):
 
 
 def block(name, *entities):
-    begin = tags((0, "BLOCK"), (100, "AcDbEntity"), (8, "0"), (100, "AcDbBlockBegin"), (2, name), (70, 0), (10, 0), (20, 0), (30, 0), (3, name))
-    return begin + "".join(entities) + tags((0, "ENDBLK"), (100, "AcDbEntity"), (8, "0"), (100, "AcDbBlockEnd"))
+    begin = newer("BLOCK", "AcDbBlockBegin", (2, name), (70, 0), *points(10, (0, 0, 0)), (3, name))
+    return begin + "".join(entities) + newer("ENDBLK", "AcDbBlockEnd")
 
 
 def insert(name, *pairs):
@@ -119,9 +110,17 @@ def insert(name, *pairs):
 
 
 LINE = entity("LINE", *points(10, (0, 0)), *points(11, (10, 5)))
-SPLINE = newer(
-    "SPLINE", "AcDbSpline", (70, 8), (71, 3), (72, 8), (73, 4), *[(40, 0)] * 4, *[(40, 1)] * 4, *points(10, (0, 0, 0), (1, 3, 0), (4, 3, 0), (5, 0, 0))
-)  # fmt: skip
+
+
+def spline(degree, knots, *all_points):
+    return newer("SPLINE", "AcDbSpline", (70, 8), (71, degree), *[(40, knot) for knot in knots], *points(10, *all_points))
+
+
+def polyline(*pairs):
+    return newer("LWPOLYLINE", "AcDbPolyline", (90, sum(code == 10 for code, _ in pairs)), *pairs)
+
+
+SPLINE = spline(3, [0] * 4 + [1] * 4, (0, 0, 0), (1, 3, 0), (4, 3, 0), (5, 0, 0))
 
 
 @needs_ezdxf
@@ -160,10 +159,11 @@ class Dxf(Case):
         below = points(210, (0, 0, -1))
         (edge,) = self.edges(entity("ARC", *points(10, (10, 0)), (40, 10), (50, 0), (51, 90), *below))
         self.assertEqual((edge[:2], edge[-2:]), ((-2000, 0), (-1000, 1000)))
-        (edge,) = self.edges(newer("LWPOLYLINE", "AcDbPolyline", (90, 2), (70, 0), (10, 0), (20, 0), (42, 0.41421356237309503), (10, 10), (20, 10), *below))
+        (edge,) = self.edges(polyline((70, 0), (10, 0), (20, 0), (42, math.tan(math.pi / 8)), (10, 10), (20, 10), *below))
         self.assertEqual((edge[:2], edge[-2:]), ((0, 0), (-1000, 1000)))
         self.assertEqual(edge[2:4], (-552, 0))  # to the right of its chord in its own plane: it leaves along x
-        (first, _) = self.edges(newer("ELLIPSE", "AcDbEllipse", *points(10, (0, 0, 0)), *points(11, (10, 0, 0)), *below, (40, 0.5), (41, 0), (42, math.pi)))
+        half = newer("ELLIPSE", "AcDbEllipse", *points(10, (0, 0, 0)), *points(11, (10, 0, 0)), *below, (40, 0.5), (41, 0), (42, math.pi))
+        (first, _) = self.edges(half)
         self.assertEqual((first[:2], first[-2:]), ((1000, 0), (0, -500)))
 
     def test_polylines_with_bulges(self):
@@ -275,9 +275,9 @@ class Dxf(Case):
             self.assertEqual(self.job(self.file("part.dxf", data))[0].edges, ((0, 0, 1000, 500),))
 
     def test_splines_of_too_many_points(self):
-        many = newer("SPLINE", "AcDbSpline", (70, 8), (71, 3), *[(40, i) for i in range(504)], *points(10, *[(i, i % 7, 0) for i in range(501)]))
+        many = spline(3, range(505), *[(i, i % 7, 0) for i in range(501)])
         self.finding(self.file("part.dxf", dxf_file(many)), "more than 500 control points")
-        high = newer("SPLINE", "AcDbSpline", (70, 8), (71, 40), *[(40, 0)] * 41, *[(40, 1)] * 41, *points(10, *[(i, i % 7, 0) for i in range(41)]))
+        high = spline(40, [0] * 41 + [1] * 41, *[(i, i % 7, 0) for i in range(41)])
         self.finding(self.file("part.dxf", dxf_file(high)), "the degree 40")
 
     def test_too_long_files(self):
@@ -290,6 +290,26 @@ class Dxf(Case):
 def svg_file(*shapes, root='width="60mm" height="40mm" viewBox="0 0 60 40"', before=""):
     names = 'xmlns="http://www.w3.org/2000/svg" xmlns:xlink="http://www.w3.org/1999/xlink"'
     return f"{before}<svg {names} {root}>\n" + "\n".join(shapes) + "\n</svg>\n"
+
+
+def standard_arc(ends, rx, ry, turn, large, sweep):
+    """An arc of a path as a function on 0 to 1, by the centre that the standard gives it."""
+    cos, sin = math.cos(math.radians(turn)), math.sin(math.radians(turn))
+    dx, dy = (ends[0] - ends[2]) / 2, (ends[1] - ends[3]) / 2
+    x, y = cos * dx + sin * dy, cos * dy - sin * dx
+    grown = max(1, math.hypot(x / rx, y / ry))
+    rx, ry = rx * grown, ry * grown
+    size = (x / rx) ** 2 + (y / ry) ** 2
+    away = math.sqrt(max(0, 1 / size - 1)) * (-1 if large == sweep else 1)
+    cx, cy = away * rx * y / ry, -away * ry * x / rx
+    first, last = math.atan2((y - cy) / ry, (x - cx) / rx), math.atan2((-y - cy) / ry, (-x - cx) / rx)
+    angle = (last - first) % math.tau - (0 if sweep else math.tau)
+
+    def at(t):
+        px, py = cx + rx * math.cos(first + angle * t), cy + ry * math.sin(first + angle * t)
+        return cos * px - sin * py + (ends[0] + ends[2]) / 2, sin * px + cos * py + (ends[1] + ends[3]) / 2
+
+    return at
 
 
 @needs_svgelements
@@ -330,20 +350,40 @@ class Svg(Case):
         self.assertEqual(self.edges('<path d="M10 10A5 5 0 0 0 10 10L20 10"/>'), ((1000, 3000, 2000, 3000),))
         self.assertEqual(self.box('<path d="M 20 20 A 10 5 90 1 1 20 20.001"/>')[1::2], (1000, 3000))
 
+    def test_arcs_under_any_transform(self):
+        """Against the formulas of the SVG standard, its appendix on arcs."""
+        chance = random.Random(6)
+        for _ in range(60):
+            matrix = [round(chance.uniform(-2, 2), 6) for _ in range(6)]
+            if abs(matrix[0] * matrix[3] - matrix[1] * matrix[2]) < 0.3:
+                continue
+            numbers = [round(chance.uniform(1, 20), 4) for _ in range(3)] + [chance.randrange(2), chance.randrange(2)]
+            ends = [round(chance.uniform(-10, 10), 4) for _ in range(4)]
+            path = f'<path transform="matrix({matrix})" d="M{ends[:2]}A{numbers}{ends[2:]}"/>'.replace("[", " ").replace("]", " ")
+            (arc,) = svg.read(svg_file(path).encode()).curves
+            at = standard_arc(ends, *numbers)
+            for step in range(17):
+                x, y = at(step / 16)
+                across, down = (matrix[i] * x + matrix[i + 2] * y + matrix[i + 4] for i in (0, 1))
+                found = arc.point(arc.first + arc.sweep * step / 16)
+                self.assertLess(math.dist(found, (100 * across, 4000 - 100 * down)), 1e-5 + arc.doubt, path)
+
     def test_transforms(self):
         moved = '<g transform="translate(5 5)"><g transform="rotate(90)"><line x1="0" y1="0" x2="10" y2="0"/></g></g>'
         self.assertEqual(self.edges(moved), ((500, 3500, 500, 2500),))
         mirrored = '<path transform="matrix(-1 0 0 1 30 0)" d="M 10 10 A 5 5 0 0 1 15 15"/>'
         self.assertEqual(self.edges(mirrored), ((2000, 3000, 1724, 3000, 1500, 2776, 1500, 2500),))
-        skewed = self.box('<circle transform="skewX(45)" cx="0" cy="0" r="10"/>', root='width="60mm" height="40mm" viewBox="-30 -20 60 40"')
+        middle = 'width="60mm" height="40mm" viewBox="-30 -20 60 40"'
+        skewed = self.box('<circle transform="skewX(45)" cx="0" cy="0" r="10"/>', root=middle)
         self.assertEqual(skewed[1::2], (1000, 3000))
         self.assertEqual(skewed[::2], (3000 - 1414, 3000 + 1414))
-        flat = self.box('<path transform="skewX(45)" d="M10 0A10 10 0 0 1 -10 0A10 10 0 0 1 10 0z"/>', root='width="60mm" height="40mm" viewBox="-30 -20 60 40"')
+        flat = self.box('<path transform="skewX(45)" d="M10 0A10 10 0 0 1 -10 0A10 10 0 0 1 10 0z"/>', root=middle)
         self.assertEqual(flat, skewed)
 
     def test_uses(self):
-        used = '<defs><g id="a"><line x1="0" y1="0" x2="5" y2="0"/></g></defs><use xlink:href="#a" x="10" y="10"/><use href="#a" transform="translate(0 20)"/>'
-        self.assertEqual(self.edges(used), ((1000, 3000, 1500, 3000), (0, 2000, 500, 2000)))
+        kept = '<defs><g id="a"><line x1="0" y1="0" x2="5" y2="0"/></g></defs>'
+        used = '<use xlink:href="#a" x="10" y="10"/><use href="#a" transform="translate(0 20)"/>'
+        self.assertEqual(self.edges(kept, used), ((1000, 3000, 1500, 3000), (0, 2000, 500, 2000)))
 
     def test_what_is_not_displayed(self):
         seen = '<line x1="0" y1="0" x2="5" y2="0"/>'
@@ -366,14 +406,16 @@ class Svg(Case):
 
     def test_units_are_asked_for(self):
         line = '<line x1="0" y1="0" x2="6" y2="0"/>'
-        for root in ("", 'width="60" height="40"', 'width="60px" height="40px" viewBox="0 0 60 40"', 'viewBox="0 0 60 40"', 'width="60mm" height="40mm"'):
+        box = 'viewBox="0 0 60 40"'
+        for root in ("", 'width="60" height="40"', f'width="60px" height="40px" {box}', box, 'width="60mm" height="40mm"'):
             self.finding(self.file("part.svg", svg_file(line, root=root)), "--units mm|cm|m|in|ft")
             edge = self.edges(line, root=root, words=("--units", "cm"))[0]
             self.assertEqual(edge[2] - edge[0], 6000)
         self.assertEqual(self.edges(line, words=("--units", "in"))[0], (0, 101600, 15240, 101600))
 
     def test_text_is_left_out(self):
-        _, err = self.job(self.file("part.svg", svg_file('<text x="1" y="1">Hi <tspan>you</tspan></text><line x1="0" y1="0" x2="5" y2="0"/>')))
+        text = '<text x="1" y="1">Hi <tspan>you</tspan></text>'
+        _, err = self.job(self.file("part.svg", svg_file(text, '<line x1="0" y1="0" x2="5" y2="0"/>')))
         self.assertIn("left out: 1 text", err)
         self.finding(self.file("part.svg", svg_file("<text>Hi</text>")), "nothing in it that makes an edge; left out: 1 text")
 
@@ -443,6 +485,9 @@ class Svg(Case):
         self.finding(self.file("part.svg", svg_file('<line x1="0" y1="0" x2="10001" y2="0"/>')), "10,000 mm at most")
         self.finding(self.file("part.svg", svg_file('<circle r="1"/>', root='width="60mm" height="40mm" viewBox="0 0 0 40"')))
         self.finding(self.file("part.svg", svg_file('<circle r="1"/>', root='width="60mm" height="40mm" viewBox="a b"')))
+        for box in ("0 0 1e999999999 9", "0 0 9 1e-999999999"):
+            self.finding(self.file("part.svg", svg_file('<circle r="1"/>', root=f'width="60mm" height="40mm" viewBox="{box}"')))
+        self.finding(self.file("part.svg", svg_file('<circle r="1"/>', root='width="1e999999999mm" viewBox="0 0 9 9"')))
 
     def test_broken_files(self):
         good = svg_file('<line x1="0" y1="0" x2="5" y2="0"/>')
@@ -464,8 +509,9 @@ class Verb(Case):
 
     def test_bad_usage(self):
         path = self.file("part.svg", svg_file())
-        for words in ((), ("--reach", "0"), ("--reach", "-1"), ("--reach", "1/3"), ("--reach", "nan"), ("--reach", "inf"), ("--reach", "x")):
-            self.assertEqual(ran(path, *words)[0], 2, words)
+        self.assertEqual(ran(path)[0], 2)
+        for reach in ("0", "-1", "1/3", "nan", "inf", "x", "1e999999999", "1e-999999999"):
+            self.assertEqual(ran(path, "--reach", reach)[0], 2, reach)
         for words in (("--split",), ("--json",), ("--units", "px"), ("--within", "0"), ("--within", "0.00001"), ("--within", "11")):
             self.assertEqual(ran(path, "--reach", "1", *words)[0], 2, words)
 
@@ -584,7 +630,7 @@ class Examples(Case):
             for kind in ("dxf", "svg"):
                 job = Job.from_sheet((DRAWINGS / f"{part}.{kind}.sheet").read_bytes())
                 self.assertLess(job.reach, 253)
-                self.assertIn("C", job.map().cells.decode() if hasattr(job.map(), "cells") else "C")
+                self.assertTrue(all(job.map().counts().values()))
 
     def test_both_drawings_of_a_part_give_one_outline(self):
         for part in PARTS:

@@ -155,7 +155,9 @@ class Lengths(unittest.TestCase):
         for length in ["12.34", 12.34, Decimal("12.34"), Fraction(1234, 100)]:
             self.assertEqual(lengths.hundredths(length), 1234)
         self.assertEqual(lengths.hundredths(-3), -300)
-        for length in ["12.345", 0.1 + 0.2, float("nan"), float("inf"), "x", "", "1e400x"]:
+        self.assertEqual(lengths.hundredths("1e2"), 10_000)
+        endless = ["1e999999999", "1e-999999999", Decimal("1e999999999")]
+        for length in [*endless, None, [], "12.345", 0.1 + 0.2, float("nan"), float("inf"), "x", "", "1e400x"]:
             with self.subTest(length), self.assertRaises(ValueError):
                 lengths.hundredths(length)
 

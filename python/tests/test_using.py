@@ -26,9 +26,8 @@ class Guide(unittest.TestCase):
             os.symlink(ROOT / "examples", Path(folder) / "examples")
             for words, printed in commands():
                 line, _, target = words.partition(" > ")
-                done = subprocess.run(
-                    command_line(*line.split()), cwd=folder, env=environment(), stdout=subprocess.PIPE, stderr=subprocess.PIPE, text=True, check=False
-                )
+                words_run = command_line(*line.split())
+                done = subprocess.run(words_run, cwd=folder, env=environment(), capture_output=True, text=True, check=False)
                 self.assertEqual(done.returncode, 0, words)
                 if target:
                     (Path(folder) / target).write_text(done.stdout)

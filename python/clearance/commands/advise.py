@@ -72,7 +72,7 @@ def job_now(sheet):
 
 
 def facts(job, refused):
-    """What is compared, as data; none where a number out of range leaves nothing to tell. `refused` is 0 where it is accepted with that store."""
+    """What is compared, as data; none where a number out of range leaves nothing to tell. `refused` is 0 where it is accepted."""
     plate, cell = (1 << power if in_range(power, sheets.EXPONENTS) else None for power in (job.n, job.m))
     grained = in_range(job.grain, sheets.GRAINS)
     return {

@@ -3,7 +3,7 @@
 import argparse
 import errno
 import os
-from decimal import Decimal
+from decimal import Decimal, InvalidOperation
 from fractions import Fraction
 
 from .. import advice, console, inputs, library
@@ -15,7 +15,7 @@ from ..drawings.reading import BYTES_MOST, UNITS
 from ..gaps import gaps
 from ..lengths import hundredths, millimetres, plain, root_up
 
-SUMMARY = "makes a job sheet from a DXF or an SVG drawing"
+SUMMARY = "make a job sheet from a DXF or an SVG drawing"
 DESCRIPTION = f"""\
 Makes a job sheet from a drawing: its lines as lines, its curves as cubics of whole hundredths of a millimetre. What a map
 of the sheet proves, it proves of the sheet's curves; W says how far these are from the drawing at most, both ways, and the
@@ -24,7 +24,9 @@ drawing itself. W is derived and not sampled; it is 0 where all lines and cubics
 
 The numbers of a drawing are taken to the nearest 10^-6 of a hundredth of a millimetre. Circles and their arcs are followed
 by the fewest standard cubics that stay within --within of them, ellipses and splines by cubics that do, before these are
-rounded. Lines that go on exactly straight are joined; edges without length are left out. Plate, cell and grain are those of `clearance advise`, but for a plate that is given.
+rounded. Lines that go on exactly straight are joined; edges without length are left out. Plate, cell and grain are those of
+`clearance advise`, but for a plate that is given. Of a drawing that is split, a cell is clear where the maps of all its sheets
+say C, and in reach where one of them says I.
 
 DXF, read by the package ezdxf: the model space, LINE, LWPOLYLINE, POLYLINE, ARC, CIRCLE, ELLIPSE, SPLINE and INSERT, all
 in the plane z = 0, on all layers. SVG, read by the package svgelements: all shapes and paths, by their centre lines, y upward
@@ -44,12 +46,13 @@ WITHIN = Fraction(1, 10_000), Fraction(10)
 def length(word):
     """A length in millimetres, exact."""
     try:
-        number = Fraction(word)
-    except (ValueError, ZeroDivisionError) as error:
+        number = Decimal(word)
+    except InvalidOperation as error:
         raise argparse.ArgumentTypeError(f"{word} is no length in millimetres") from error
-    if "/" in word or number <= 0:
+    # The exponent is looked at first: a fraction of 1e999999999 would take all memory.
+    if not number.is_finite() or number <= 0 or not -12 <= number.adjusted() <= 12:
         raise argparse.ArgumentTypeError(f"{word} is no length above 0 in millimetres")
-    return number
+    return Fraction(number)
 
 
 def whole(word):
@@ -86,7 +89,9 @@ def arguments(parser):
     inputs.add_store(parser, library.PROGRAM_STORE, advice.STORE)
     parser.add_argument("-o", "--output", metavar="FILE", default="-", help="the sheet (standard output)")
     parser.add_argument(
-        "--split", action="store_true", help="write FILE-1.sheet, FILE-2.sheet ... of up to 64 edges each, on one plate; also where one is enough"
+        "--split",
+        action="store_true",
+        help="write FILE-1.sheet, FILE-2.sheet ... of up to 64 edges each, on one plate; also where one is enough",
     )
     parser.add_argument("--json", action="store_true", help="write what is said of the sheet as JSON to standard output; needs -o")
 
@@ -133,7 +138,8 @@ def jobs_of(edges, reach, plate, asked):
     """One job, or as many on one plate as it takes."""
     most = library.EDGES_MOST
     if not asked.split and len(edges) > most:
-        raise Unusable(f"it has {len(edges)} edges, and a sheet has {most} at most; --split -o FILE.sheet writes several sheets for one plate")
+        several = "--split -o FILE.sheet writes several sheets for one plate"
+        raise Unusable(f"it has {len(edges)} edges, and a sheet has {most} at most; {several}")
     plate = plate or advice.plate_for(edges, reach)
     groups = [edges[start : start + most] for start in range(0, len(edges), most)]
     return [advice.advised(group, reach, plate, asked.store) for group in groups]

@@ -39,7 +39,7 @@ def width(word):
 
 def arguments(parser):
     add_files(parser)
-    parser.add_argument("--also", metavar="SHEET", action="append", default=[], help="a further sheet of the same plate; may be given again")
+    parser.add_argument("--also", metavar="SHEET", action="append", default=[], help="another sheet of the same plate; may be repeated")
     parser.add_argument("-o", "--output", metavar="FILE", default="-", help="where the picture is written (standard output)")
     kind = parser.add_mutually_exclusive_group()
     kind.add_argument("--actual", action="store_true", help="true size: printed at 100 %%, the plate's side is as long as it is in metal")

@@ -21,9 +21,10 @@ def outward(angle):
     |B|^2 - 1 is from 0 to D = 16/108 sin(q)^6 / cos(q)^2, and |B| - 1 at most sqrt(1 + D) - 1 = D / (1 + sqrt(1 + D)).
 
     For an angle of at most 180 degrees the control points go once around in the order of their directions, since
-    4/3 tan(q) <= tan(2q). A line through the centre crosses their polygon once at most inside the arc's angle, hence (variation
-    diminishing) the cubic too: its direction runs through the arc's once. So each point of the arc and the cubic's
-    point on the same ray are a pair, and the bound holds both ways. An affine map keeps pairs, and stretches by the larger semi-axis at most.
+    4/3 tan(q) <= tan(2q). A line through the centre crosses their polygon once at most inside the arc's angle, hence
+    (variation diminishing) the cubic too: its direction runs through the arc's once. So each point of the arc and the
+    cubic's point on the same ray are a pair, and the bound holds both ways. An affine map keeps pairs, and stretches by
+    the larger semi-axis at most.
     """
     q = angle / 4
     squared = 4 / 27 * math.sin(q) ** 6 / math.cos(q) ** 2
@@ -78,13 +79,13 @@ class ArcPiece:
         """For a circle of radius r: the edge against the circle itself. Infinite where this does not tell.
 
         Let p(t) be the edge's distance from the centre. p^2 - r^2 has degree six, and its coefficients bound it, so
-        |p - r| = |p^2 - r^2| / (p + r) is at most some a. Where the control points' directions from the centre follow each other
-        within a half turn, the edge's direction runs one way (as in `outward`). So an edge's point whose direction the arc has is within a of
-        the arc, and the other way round. The other points lie between an end of the arc and that end of the edge, d apart in
-        direction or less: two points of distances p and r that are d apart in direction are
+        |p - r| = |p^2 - r^2| / (p + r) is at most some a. Where the control points' directions from the centre follow each
+        other within a half turn, the edge's direction runs one way (as in `outward`). So an edge's point whose direction the
+        arc has is within a of the arc, and the other way round. The other points lie between an end of the arc and that end
+        of the edge, d apart in direction or less: two points of distances p and r that are d apart in direction are
         sqrt((p - r)^2 + 4 p r sin^2(d/2)) apart, and of the ends themselves that is known: so 4 p r sin^2(d/2) is at most
-        the square of the ends' distance less that of their radii's difference, times the largest p by the end's. With b^2 the larger of both ends',
-        each point is within sqrt(a^2 + b^2).
+        the square of the ends' distance less that of their radii's difference, times the largest p by the end's. With b^2
+        the larger of both ends', each point is within sqrt(a^2 + b^2).
         """
         radius = math.hypot(*self.arc.u)
         arms = [(x - self.arc.centre[0], y - self.arc.centre[1]) for x, y in edge]

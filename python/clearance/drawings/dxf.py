@@ -262,11 +262,12 @@ class Reader:
 
     def spline(self, entity):
         if not entity.control_point_count():
-            raise Unusable(f"{entity} has fit points only, and the curve through them is not told by the file: have its control points written")
+            raise Unusable(f"{entity} has fit points only, which do not tell the curve between them: have its control points written")
         count, degree = entity.control_point_count(), entity.dxf.degree
         self.spline_points += count * (2 if degree > 3 or len(entity.weights) else 1) if count > degree + 1 else 0
         if self.spline_points > SPLINE_POINTS_MOST:
-            raise Unusable(f"its splines have more than {SPLINE_POINTS_MOST:,} control points (those with weights or of a degree above 3 count twice)")
+            twice = "those with weights or of a degree above 3 count twice"
+            raise Unusable(f"its splines have more than {SPLINE_POINTS_MOST:,} control points; {twice}")
         points = tuple(self.flat(entity, point) for point in entity.control_points)
         weights = tuple(map(float, entity.weights)) or (1.0,) * len(points)
         self.curves.append(Spline(entity.dxf.degree, tuple(map(float, entity.knots)), points, weights))

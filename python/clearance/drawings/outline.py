@@ -59,7 +59,8 @@ def placed(outline, corner=None):
         edges = tuple(tuple(number + (up if place % 2 else across) for place, number in enumerate(edge)) for edge in edges)
     far = max(abs(number) for edge in edges for number in edge)
     if far > COORDINATE_MOST:
-        raise Unusable(f"it goes {far / 100:,.2f} mm from the origin, and {COORDINATE_MOST // 100:,} mm at most can be written; --at moves it")
+        most = f"{COORDINATE_MOST // 100:,} mm at most can be written"
+        raise Unusable(f"it goes {far / 100:,.2f} mm from the origin, and {most}; --at moves it")
     return replace(outline, edges=edges)
 
 

@@ -1,10 +1,11 @@
 """Cubics for B-splines, rational ones too, of any degree.
 
 On each of its spans, between two knots, a spline is a polynomial, or for a rational one a quotient of polynomials N / w. A
-piece from a to b is replaced by a cubic H that has the curve's ends and the directions of its tangents there. H is gone along
-at a pace of its own: f is a cubic from 0 to 1 whose coefficients 0, p/3, 1 - q/3, 1 do not go down, so f does not go down either
-(its derivative's coefficients are their differences), and C(t) and H(f(t)) are a pair, of all points of both. On each span within the piece H(f) w - N is a polynomial; with its
-coefficients, and the least of w, the distance of the pairs is bounded (bernstein.py). The same is done with the rounded edge in place of H.
+piece from a to b is replaced by a cubic H that has the curve's ends and the directions of its tangents there. H is gone
+along at a pace of its own: f is a cubic from 0 to 1 whose coefficients 0, p/3, 1 - q/3, 1 do not go down, so f does not go
+down either (its derivative's coefficients are their differences, times three), and the points C(t) and H(f(t)) are pairs,
+of all points of both. On each span within the piece H(f) w - N is a polynomial; with its coefficients, and the least of w,
+the distance of the pairs is bounded (bernstein.py). The same is done with the rounded edge in place of H.
 
 The pieces are taken as long as bisection finds them to stay within what is asked, and end at every corner.
 """
@@ -70,7 +71,8 @@ def checked(spline):
     if not all(math.isfinite(number) for number in numbers):
         raise Unusable("a spline has a knot or a weight that is no number")
     if not 1 <= degree < count or len(spline.knots) != count + degree + 1 or len(spline.weights) != count:
-        raise Unusable(f"a spline of degree {degree} has {count} control points, {len(spline.knots)} knots and {len(spline.weights)} weights")
+        has = f"{count} control points, {len(spline.knots)} knots and {len(spline.weights)} weights"
+        raise Unusable(f"a spline of degree {degree} has {has}")
     if any(high < low for low, high in zip(spline.knots, spline.knots[1:])):
         raise Unusable("a spline's knots go down")
     if not spline.knots[degree] < spline.knots[count]:
@@ -225,7 +227,8 @@ def through_middle(even, parts):
     """The cubic with other handles that goes through the curve's point in the middle of its pace, or None.
 
     With handles a and b times as long its pace has the slopes 1/a and 1/b at its ends: then the derivatives agree there too.
-    Its middle is (p + q) / 2 + 3/8 (a d - b e), d and e the even one's handles, which gives a and b. Where the pace's middle is they tell in turn.
+    Its middle is (p + q) / 2 + 3/8 (a d - b e), d and e the even one's handles, which gives a and b. Where the pace's
+    middle is they tell in turn.
     """
     (p, p_out, q_in, q), middle, pace = even.control, 0.5, None
     (dx, dy), (ex, ey) = ((b[0] - a[0], b[1] - a[1]) for a, b in ((p, p_out), (q_in, q)))

@@ -13,7 +13,7 @@ from fractions import Fraction
 
 from .curves import Arc, Bezier, Unusable, floats, taken
 from .reading import UNITS, Drawing, package
-from .svg_check import PLAIN, Check, scale_of, view_box
+from .svg_check import PLAIN, Check, exact, scale_of, view_box
 
 LEFT_OUT = ("text", "image", "foreignObject", "flowRoot")
 # svgelements computes the centre of an arc by a root, which near a half turn has half of a double's places.
@@ -87,7 +87,7 @@ def upright(elements, root, page, scale):
     back = Affine(1 / view.a, Fraction(0), Fraction(0), 1 / view.d, -view.e / view.a, -view.f / view.d)
     box = view_box(page)
     height = PLAIN.fullmatch(page.get("height", ""))
-    left, low = (box[0], box[1] + box[3]) if box else (Fraction(0), Fraction(height[1]) if height else Fraction(0))
+    left, low = (box[0], box[1] + box[3]) if box else (Fraction(0), exact(height[1]) if height else Fraction(0))
     across, up = scale
     return Affine(across, Fraction(0), Fraction(0), -up, -across * left, up * low).after(back)
 

@@ -259,6 +259,14 @@ def scale_of(page):
     return chosen, chosen
 
 
+def exact(text):
+    """A number of a page as it stands. Its size is looked at first: a fraction of 1e999999999 would take all memory."""
+    size = abs(float(text))
+    if not size < 1e12:
+        raise Unusable(f"its page has the number {text[:40]}, which is too large")
+    return Fraction(text) if size > 1e-12 else Fraction(0)
+
+
 def physical(text):
     """A length with a physical unit in hundredths, or nothing."""
     match = PHYSICAL.fullmatch(text)
@@ -266,7 +274,7 @@ def physical(text):
         return None
     inch = Fraction(2540)
     units = {"mm": Fraction(100), "cm": Fraction(1000), "in": inch, "pt": inch / 72, "pc": inch / 6, "q": Fraction(25)}
-    size = Fraction(match[1]) * units[match[2].lower()]
+    size = exact(match[1]) * units[match[2].lower()]
     return size if size > 0 else None
 
 
@@ -277,7 +285,7 @@ def view_box(page):
     words = re.split(r"[\s,]+", page["viewBox"].strip())
     if len(words) != 4 or not all(NUMBER.fullmatch(word) for word in words):
         raise Unusable("its viewBox has not four numbers")
-    box = tuple(Fraction(word) for word in words)
+    box = tuple(exact(word) for word in words)
     if min(box[2:]) <= 0:
         raise Unusable("its viewBox has no size")
     return box
