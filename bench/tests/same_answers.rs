@@ -26,11 +26,13 @@ fn examples_are_drawn_alike() {
     let folder = concat!(env!("CARGO_MANIFEST_DIR"), "/../examples");
     let mut drawn = 0;
     for entry in fs::read_dir(folder).unwrap() {
-        if let Ok(job) = read(&fs::read(entry.unwrap().path()).unwrap()) {
+        let path = entry.unwrap().path();
+        if path.extension().is_some_and(|ending| ending == "sheet") {
+            let job = read(&fs::read(path).unwrap()).unwrap();
             drawn += usize::from(is_drawn_alike(&job));
         }
     }
-    assert!(drawn > 0);
+    assert_eq!(drawn, 10);
 }
 
 #[test]

@@ -53,7 +53,7 @@ def advised(edges, reach, plate=None, store=library.PROGRAM_STORE):
     try:
         grain = trees.least_grain(edges, store, max(1, (1 << m) // 2))
         if grain is None:
-            raise Unadvisable(f"with no grain do the trees of the edges fit {store:,} numbers of store")
+            raise Unadvisable(f"no grain makes the trees of the edges fit {store:,} numbers of store")
         job = Job(x, y, n, m, reach, edges, grain)
         job.to_sheet()  # the library's word that every number is in its range
     except Refused as refused:

@@ -6,6 +6,7 @@ Status: 0 done, 1 refused or a finding, 2 bad usage, 3 reading or writing failed
 import errno
 import json
 import os
+import shutil
 import sys
 import time
 
@@ -35,7 +36,9 @@ def failed(path, error):
 
 
 def say(message):
-    print(f"clearance: {message}", file=sys.stderr)
+    # Without standard error there is nobody to tell; print would take standard output then.
+    if sys.stderr is not None:
+        print(f"clearance: {message}", file=sys.stderr)
 
 
 def at(path, line=0, column=0):
@@ -70,13 +73,15 @@ def write_bytes(path, data):
     if path == "-":
         return put(data)
     target = os.path.realpath(path)
-    beside = f"{target}.part{os.getpid()}"
+    beside = os.path.join(os.path.dirname(target), f".clearance-{os.getpid()}.part")
     try:
         if os.path.exists(target) and not os.path.isfile(target):
             beside = None
         with open(beside or target, "wb") as file:
             file.write(data)
         if beside:
+            if os.path.exists(target):
+                shutil.copymode(target, beside)
             os.replace(beside, target)
     except OSError as error:
         if beside and os.path.exists(beside):
@@ -92,7 +97,13 @@ def put(data):
         data = data.encode("utf-8", "surrogateescape")
     try:
         out = opened(sys.stdout).buffer
-        out.write(data)
+        rest = memoryview(data)
+        while rest:
+            # An unbuffered stream writes a part, or nothing where it would have to wait.
+            written = out.write(rest)
+            if not written:
+                raise BlockingIOError(errno.EAGAIN, os.strerror(errno.EAGAIN))
+            rest = rest[written:]
         out.flush()
     except BrokenPipeError:
         raise
@@ -113,7 +124,7 @@ class Progress:
         self.shown = False
 
     def step(self, done, name):
-        if sys.stderr.isatty() and (self.shown or time.monotonic() - self.start > 1):
+        if sys.stderr is not None and sys.stderr.isatty() and (self.shown or time.monotonic() - self.start > 1):
             sys.stderr.write(f"\r\x1b[K{done} of {self.total}: {name}")
             sys.stderr.flush()
             self.shown = True

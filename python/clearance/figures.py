@@ -5,7 +5,6 @@ from decimal import Decimal
 from .bounds import outline_box
 from .job import is_line
 from .lengths import millimetres, plain
-from .maps import LETTERS
 
 
 def twice_band(grain, m):
@@ -73,6 +72,12 @@ def shares(drawn):
     return {letter: (count, 100 * count / total) for letter, count in drawn.counts().items()}
 
 
+def per_cent(count, total):
+    """A share in per cent to the nearest tenth, halves upward, as text. Three of them may add up to a tenth more or less than 100."""
+    tenths = (2000 * count + total) // (2 * total)
+    return f"{tenths // 10}.{tenths % 10} %"
+
+
 def shares_text(drawn):
-    told = shares(drawn)
-    return ", ".join(f"{letter} {told[letter][0]:,} ({told[letter][1]:.1f} %)" for letter in LETTERS)
+    total = drawn.side * drawn.side
+    return ", ".join(f"{letter} {count:,} ({per_cent(count, total)})" for letter, count in drawn.counts().items())

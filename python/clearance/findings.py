@@ -44,17 +44,25 @@ def beyond(box, job, margin):
 
 def plate_finding(given):
     """The outline goes off the plate, or comes closer to its border than the reach."""
-    job = given.job
+    found = off_plate(given.job)
+    if found is None:
+        return None
+    kind, index, text = found
+    return Finding(kind, line_of(given, index), text)
+
+
+def off_plate(job):
+    """The same of a job: the warning's kind, the first such edge, and the text, or none."""
     boxes = [edge_box(edge) for edge in job.edges]
     off = [index for index, box in enumerate(boxes) if beyond(box, job, 0)]
     if off:
         several = f"{len(off)} of {len(boxes)} edges go" if len(boxes) > 1 else "the edge goes"
-        return Finding("plate", line_of(given, off[0]), f"{several} off the plate; what lies beyond it is not mapped")
+        return "plate", off[0], f"{several} off the plate; what lies beyond it is not mapped"
     near = [index for index, box in enumerate(boxes) if beyond(box, job, job.reach)]
     if near:
         several = f"{len(near)} of {len(boxes)} edges come" if len(boxes) > 1 else "the edge comes"
         text = f"{several} closer than the reach to the plate's border; what is in reach beyond it is not mapped"
-        return Finding("border", line_of(given, near[0]), text)
+        return "border", near[0], text
     return None
 
 

@@ -166,7 +166,7 @@ def word(broken):
     if before[1:] in NUMBERS or before[1:] in (b"edge", b"line"):
         return f"one space follows {before.decode('ascii')}"
     comes = NEXT[first_word(broken.data[: broken.at - broken.column].splitlines()[-1:])]
-    return f"here comes {comes}: a sheet's lines are {ORDER}"
+    return f"{comes} is what comes here: a sheet's lines are {ORDER}"
 
 
 def first_word(lines):

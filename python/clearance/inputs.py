@@ -5,10 +5,14 @@ from dataclasses import dataclass
 
 from . import console, library, reasons, sheets
 from .job import Job
+from .lengths import hundredths
+from .maps import CLEAR, DOUBTFUL, INSIDE
 from .refusals import WORDS, Refused
 
 # A map of 256 cells a side takes 67,339 bytes; anything longer is none.
 MAP_LIMIT = 67_339
+# Further edges only ever move a cell's letter to the right in this row.
+RISING = CLEAR + DOUBTFUL + INSIDE
 # A sheet has 8,192 bytes at most; so much of a longer text is read to tell how many edges it has.
 SHEET_GLANCE = 4_000_000
 
@@ -54,6 +58,14 @@ def refusal(path, data, number, store=library.STORE_MOST):
 
 def refusal_text(path, where, number, cause):
     return f"{console.at(path, *where)}: refused {number} ({WORDS[number]}): {cause}"
+
+
+def whole_length(word):
+    """A word of the command line for a length in millimetres that is whole hundredths: how many."""
+    try:
+        return hundredths(word)
+    except ValueError as error:
+        raise argparse.ArgumentTypeError(str(error)) from error
 
 
 def store_numbers(word):
@@ -111,5 +123,17 @@ def load_map_of(path, given):
 
 
 def rows_of(path, given):
-    """The rows of the map file, or of the library's map where there is no file."""
-    return drawn_of(given).map.rows if path is None else load_map_of(path, given)
+    """The rows of the library's map, or of a map file that does not contradict it.
+
+    A file may be of several sheets of the plate, this one among them: then C may have become D or I, and D may have become I.
+    """
+    own = drawn_of(given).map.rows
+    if path is None:
+        return own
+    rows = load_map_of(path, given)
+    for row, (letters, owns) in enumerate(zip(rows, own)):
+        for column, (letter, library_letter) in enumerate(zip(letters, owns)):
+            if RISING.index(letter) < RISING.index(library_letter):
+                place = f"column {column}, row {row} is {letter}, where the library draws {library_letter}"
+                raise console.found(f"{path}: this is no map of {given.path}: {place}")
+    return rows

@@ -1,6 +1,7 @@
 """A job: a plate, its cells, a reach, a grain, and an outline of lines and cubics."""
 
 import ctypes
+import operator
 from dataclasses import dataclass
 
 from . import library
@@ -15,6 +16,17 @@ DEFAULT_GRAIN = 10
 def is_line(edge):
     """Whether an edge is a line: it has four numbers, x0 y0 x1 y1, and a cubic eight."""
     return len(edge) == library.LINE_NUMBERS
+
+
+def whole(number):
+    """A whole number of 32 bits, of Python's own kind or another, as NumPy's."""
+    try:
+        found = None if isinstance(number, bool) else operator.index(number)
+    except TypeError:
+        found = None
+    if found is None or not -(2**31) <= found < 2**31:
+        raise ValueError(f"{number!r} is no whole number of 32 bits")
+    return found
 
 
 @dataclass(frozen=True)
@@ -35,20 +47,18 @@ class Job:
     grain: int = DEFAULT_GRAIN
 
     def __post_init__(self):
-        edges = tuple(tuple(edge) for edge in self.edges)
+        edges = tuple(tuple(map(whole, edge)) for edge in self.edges)
         for edge in edges:
             if len(edge) not in (library.LINE_NUMBERS, library.PLACE_NUMBERS):
                 raise ValueError(f"an edge has four numbers or eight, not {len(edge)}")
-        numbers = [self.x, self.y, self.n, self.m, self.reach, self.grain, *(z for edge in edges for z in edge)]
-        for number in numbers:
-            if isinstance(number, bool) or not isinstance(number, int) or not -(2**31) <= number < 2**31:
-                raise ValueError(f"{number!r} is no whole number of 32 bits")
         object.__setattr__(self, "edges", edges)
+        for name in ("x", "y", "n", "m", "reach", "grain"):
+            object.__setattr__(self, name, whole(getattr(self, name)))
 
     @staticmethod
     def from_sheet(sheet):
         """The job of a sheet's bytes. Refuses with 1 to 4."""
-        number, row = library.read(bytes(sheet))
+        number, row = library.read(bytes(memoryview(sheet)))
         check(number)
         return job_of(row)
 
@@ -103,12 +113,10 @@ class Drawn:
 
     def points(self, spots):
         """Bounds of each of any number of points (x, y), in millimetres and in their order."""
-        whole = [(hundredths(x), hundredths(y)) for x, y in spots]
-        if any(not -(2**31) <= number < 2**31 for spot in whole for number in spot):
-            check(3)
+        spots = [place(spot) for spot in spots]
         found = []
-        for start in range(0, len(whole), library.SPOTS_MOST):
-            found += self._asked(whole[start : start + library.SPOTS_MOST])
+        for start in range(0, len(spots), library.SPOTS_MOST):
+            found += self._asked(spots[start : start + library.SPOTS_MOST])
         return found
 
     def _asked(self, spots):
@@ -116,6 +124,16 @@ class Drawn:
         check(number)
         width = library.NEAREST_NUMBERS
         return [Nearest(*reply[at : at + width]) for at in range(0, len(reply), width)]
+
+
+def place(spot):
+    """A point in hundredths. One that no 32 bits hold is out of range, as the library would say."""
+    if isinstance(spot, str):
+        raise ValueError(f"{spot!r} is no pair of an x and a y")
+    x, y = map(hundredths, spot)
+    if not all(-(2**31) <= number < 2**31 for number in (x, y)):
+        check(3)
+    return x, y
 
 
 def job_of(row):

@@ -1,5 +1,6 @@
 """Lengths in millimetres and in hundredths of one, exactly: whole numbers and decimals, never a rounded float."""
 
+import re
 from decimal import Decimal, InvalidOperation
 from fractions import Fraction
 from math import isqrt
@@ -8,6 +9,7 @@ from math import isqrt
 FINE_A_MILLIMETRE = 1600
 # Distances are told in ten-thousandths of a millimetre; a fine unit is 6.25 of them.
 PLACES = 4
+NUMBER = re.compile(r"[+-]?(?:[0-9]+\.?[0-9]*|\.[0-9]+)(?:[eE][+-]?[0-9]+)?")
 # No length has so many digits in front of its point or behind it.
 LARGEST = 50
 
@@ -21,6 +23,8 @@ def hundredths(length):
 
     A float is taken as the shortest decimal that names it, so 0.29 is 29 hundredths.
     """
+    if isinstance(length, str) and not NUMBER.fullmatch(length):
+        raise ValueError(f"{length} is no length in millimetres")
     try:
         text = repr(float(length)) if isinstance(length, float) else length
         exact = Decimal(text) if isinstance(text, (str, Decimal)) else Fraction(text)

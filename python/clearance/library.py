@@ -58,7 +58,7 @@ def places():
     """Where the library may be, the first that is there counts."""
     named = os.environ.get("CLEARANCE_LIBRARY")
     if named:
-        return [Path(named)]
+        return [Path(os.path.abspath(named))]
     here = Path(__file__).resolve().parent
     return [here / FILE, here.parents[1] / "build" / "prefix" / "lib" / FILE]
 
@@ -125,7 +125,9 @@ def write(row, room=SHEET_WRITTEN_MOST):
 
 
 def store_of(numbers=STORE_MOST):
-    """So many numbers of store to lend."""
+    """So many numbers of store to lend: 0 to as many as any job needs."""
+    if isinstance(numbers, bool) or not isinstance(numbers, int) or not 0 <= numbers <= STORE_MOST:
+        raise ValueError(f"{numbers!r} is no count of store numbers from 0 to {STORE_MOST}")
     return (ctypes.c_int32 * numbers)()
 
 

@@ -70,6 +70,9 @@ def refusal_text(number):
 
 def joined(maps):
     """One map of several of the same cells: I where one is I, C where all are C, D elsewhere. Why that is right: docs/USING.md."""
+    maps = list(maps)
+    if not maps:
+        raise ValueError("there are no maps to join")
     first = maps[0]
     cells = [(m.side, m.x_hundredths, m.y_hundredths, m.cell_hundredths) for m in maps]
     if any(other != cells[0] for other in cells):

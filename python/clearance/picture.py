@@ -4,11 +4,12 @@
 """
 
 import textwrap
-from dataclasses import dataclass
+from dataclasses import dataclass, replace
 from decimal import Decimal
 from itertools import groupby
 from xml.sax.saxutils import escape
 
+from .figures import per_cent
 from .job import is_line
 from .lengths import millimetres, plain
 from .maps import CLEAR, DOUBTFUL, INSIDE
@@ -112,15 +113,6 @@ def label_width(label):
 def counts(rows):
     """How many cells have each letter."""
     return {letter: sum(row.count(letter) for row in rows) for letter in NAMES}
-
-
-def shares(numbers):
-    """Tenths of a per cent of each letter. The largest remainders get what is left, so they add up to 1,000."""
-    total = sum(numbers.values())
-    parts = {letter: divmod(1000 * number, total) for letter, number in numbers.items()}
-    rest = 1000 - sum(whole for whole, _ in parts.values())
-    ranked = sorted(parts, key=lambda letter: -parts[letter][1])
-    return {letter: parts[letter][0] + (letter in ranked[:rest]) for letter in parts}
 
 
 def area(cells, side):
@@ -256,10 +248,10 @@ def scale_bar(job, place):
     ]
 
 
-def facts(job, place):
-    """The job's lengths, under the scale bar."""
-    lengths = [("plate", 1 << job.n), ("cell", 1 << job.m), ("reach", job.reach), ("grain", job.grain)]
-    words = [f"{name} {plain(millimetres(length))} mm" for name, length in lengths]
+def facts(jobs, place):
+    """The jobs' lengths, under the scale bar. They have one plate and cell; reaches and grains that differ are all told."""
+    lengths = {"plate": [1 << jobs[0].n], "cell": [1 << jobs[0].m], "reach": [j.reach for j in jobs], "grain": [j.grain for j in jobs]}
+    words = [f"{name} {' and '.join(plain(millimetres(length)) for length in dict.fromkeys(some))} mm" for name, some in lengths.items()]
     left, top = place.foot
     return [
         text(left, top + 2 * ROW - 4, ", ".join(words[:2])),
@@ -270,7 +262,7 @@ def facts(job, place):
 def legend(job, rows, place):
     left, top = place.legend
     numbers = counts(rows)
-    tenths = shares(numbers)
+    total = sum(numbers.values())
     side = 1 << job.m
     digits = 2 if area(sum(numbers.values()), side) >= 1 else 4
     lines = ['<g id="legend">']
@@ -280,7 +272,7 @@ def legend(job, rows, place):
             f'<rect x="{left}" y="{y}" width="{KEY}" height="{KEY}" fill="{COLOURS[letter]}" stroke="{INK}" '
             'stroke-width="0.7"/>',
             text(left + KEY + 8, y + 11.5, f"{letter} {name}"),
-            text(left + 160, y + 11.5, f"{tenths[letter] // 10}.{tenths[letter] % 10} %", "end"),
+            text(left + 160, y + 11.5, per_cent(numbers[letter], total), "end"),
             text(left + LEGEND_WIDTH, y + 11.5, f"{area(numbers[letter], side):.{digits}f} mm²", "end"),
         ]
     y = top + len(NAMES) * ROW
@@ -308,8 +300,8 @@ def size(job, place, actual):
     return f'width="{place.width * scale:.9g}mm" height="{place.height * scale:.9g}mm"'
 
 
-def picture(job, rows, width=DEFAULT_WIDTH, grid=False, actual=False):
-    """The whole SVG text. The job is right and the map is of its size."""
+def picture(job, rows, width=DEFAULT_WIDTH, grid=False, actual=False, others=()):
+    """The whole SVG text. The job is right and the map is of its size; `others` are further jobs of its plate, drawn with it."""
     place = layout(job, width)
     lines = [
         f'<svg xmlns="http://www.w3.org/2000/svg" {size(job, place, actual)} '
@@ -317,15 +309,20 @@ def picture(job, rows, width=DEFAULT_WIDTH, grid=False, actual=False):
         TITLE,
         f'<rect width="{width}" height="{place.height}" fill="{PAPER}"/>',
         *cells_group(rows, place, grid or len(rows) <= GRID_LIMIT),
-        *outline_group(job, place),
+        *outline_group(together(job, others), place),
         *axes(job, place),
         *scale_bar(job, place),
-        *facts(job, place),
+        *facts([job, *others], place),
         *legend(job, rows, place),
         *meanings(place),
         "</svg>",
     ]
     return "\n".join(lines) + "\n"
+
+
+def together(job, others):
+    """A job with the edges of others too, to be drawn."""
+    return replace(job, edges=sum((other.edges for other in others), job.edges))
 
 
 def overlay(job, rows, outline=False):

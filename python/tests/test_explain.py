@@ -120,9 +120,9 @@ class Hints(unittest.TestCase):
             (b"(reach 4)", b"(reach +4)", "no plus"),
             (b"(reach 4)", b"(reach 4e2)", "no exponent"),
             (b"(edge (0 0)", b"(edge (0,0)", "no comma"),
-            (b"(cell 1)\n", b"", "here comes (cell M)"),
-            (b"(job\n", b"", "here comes (job"),
-            (b"(reach 4)\n", b"(radius 4)\n", "here comes (reach R)"),
+            (b"(cell 1)\n", b"", "(cell M) is what comes here"),
+            (b"(job\n", b"", "(job is what comes here"),
+            (b"(reach 4)\n", b"(radius 4)\n", "(reach R) is what comes here"),
             (EDGE, EDGE + b"(grain 1)\n", "another edge or the closing parenthesis"),
             (b" (0 0))\n", b")\n", "has 4 points, and this one 3"),
             (EDGE, b"(line (0 0) (0 0) (0 0))\n", "has 2 points, and this one 3"),
@@ -177,7 +177,7 @@ class Explanations(unittest.TestCase):
     def test_form(self):
         text = self.said(1, SHEET.replace(b"(cell", b"(sell"))
         self.assertIn('line 3, column 2: expected "cell "', text)
-        self.assertIn("likely: here comes (cell M)", text)
+        self.assertIn("likely: (cell M) is what comes here", text)
 
     def test_edges(self):
         self.assertIn(": 0", self.said(2, with_edges(b"")))

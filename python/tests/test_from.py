@@ -540,6 +540,9 @@ class Verb(Case):
         self.assertEqual(self.job(path, "--plate", "0", "0", "327.68")[0].n, 15)
         self.assertEqual(self.job(path, "--plate", "0", "0", "327.69")[0].n, 16)
         self.finding(path, "10,000 mm at most", words=("--at", "9990", "0"))
+        self.assertNotIn("warning", said)
+        for place, warning in (("240", "edges go off the plate"), ("206", "edges come closer than the reach to the plate's border")):
+            self.assertIn(warning, self.job(path, "--plate", "0", "0", "300", "--at", place, "20")[1])
         self.finding(path, "out of its range", words=("--plate", "0", "0", "99999"))
         for words in (["--plate", "0", "0"], ["--plate", "0", "0", "0"], ["--plate", "0", "0", "x"], ["--at", "0.005", "0"]):
             self.assertEqual(ran(path, "--reach", "2.5", *words)[0], 2, words)

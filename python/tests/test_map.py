@@ -1,5 +1,6 @@
 """The verb `map` beside the program `clearmap`, byte for byte, and the verb `spot`; their statuses and what they say."""
 
+import io
 import json
 import os
 import subprocess
@@ -7,6 +8,7 @@ import sys
 import tempfile
 import unittest
 from pathlib import Path
+from unittest import mock
 
 from clearance import Job, cli, console, library
 
@@ -95,6 +97,33 @@ class Maps(unittest.TestCase):
         self.assertEqual(done.returncode, 3)
         self.assertIn(b"clearance: standard output: ", done.stderr)
 
+    def test_all_is_written_or_it_fails(self):
+        """Also where Python's standard output is not buffered and takes a part at a time."""
+        line = f"ulimit -f 8; exec {sys.executable} -m clearance map {TOP / 'examples' / 'baffle.sheet'}"
+        for unbuffered in ({}, {"PYTHONUNBUFFERED": "1"}):
+            with tempfile.TemporaryDirectory() as folder, open(Path(folder) / "map", "wb") as out:
+                environment = {**os.environ, "PYTHONPATH": str(TOP / "python"), **unbuffered}
+                done = subprocess.run(["bash", "-c", line], stdout=out, stderr=subprocess.PIPE, env=environment, check=False)
+                self.assertEqual(done.returncode, 3)
+                self.assertIn(b"clearance: standard output: ", done.stderr)
+
+    def test_a_reader_who_has_gone(self):
+        """The maps are drawn all the same."""
+        with tempfile.TemporaryDirectory() as folder:
+            reading, writing = os.pipe()
+            os.close(reading)
+            sheets = sorted((TOP / "examples").glob("*.sheet"))
+            self.assertEqual(process("map", "-o", folder, *sheets, stdout=writing).returncode, 3)
+            os.close(writing)
+            self.assertEqual(len(os.listdir(folder)), len(sheets))
+
+    def test_without_standard_error(self):
+        line = f"PYTHONPATH={TOP / 'python'} exec {sys.executable} -m clearance"
+        done = subprocess.run(["sh", "-c", f"{line} map {BRACKET} 2>&-"], stdout=subprocess.PIPE, check=False)
+        self.assertEqual((done.returncode, done.stdout), (0, BRACKET.with_suffix(".map").read_bytes()))
+        done = subprocess.run(["sh", "-c", f"{line} spot {BRACKET} 0 10000.01 2>&-"], stdout=subprocess.PIPE, check=False)
+        self.assertEqual((done.returncode, done.stdout), (1, b""))
+
     def test_streams_that_are_closed(self):
         for words, streams in [("map - <&-", b"clearance: -: "), ("map %s >&-" % BRACKET, b"clearance: standard output: ")]:
             line = f'PYTHONPATH={TOP / "python"} exec {sys.executable} -m clearance {words}'
@@ -160,6 +189,25 @@ class Writing(unittest.TestCase):
             self.assertTrue(pipe.is_fifo())
             with self.assertRaises(console.Ended):
                 console.write_bytes(folder, b"new")
+
+
+class Progress(unittest.TestCase):
+    """The line that tells how far many sheets are: on a terminal alone, and from a second on."""
+
+    def shown(self, terminal, seconds):
+        said = io.StringIO()
+        said.isatty = lambda: terminal
+        with mock.patch("sys.stderr", said), mock.patch("time.monotonic", side_effect=[0.0, seconds, seconds]):
+            progress = console.Progress(3)
+            progress.step(2, "two.sheet")
+            progress.end()
+        return said.getvalue()
+
+    def test_when_it_is_shown(self):
+        self.assertIn("2 of 3: two.sheet", self.shown(True, 1.5))
+        self.assertTrue(self.shown(True, 1.5).endswith("\r\x1b[K"))
+        self.assertEqual(self.shown(True, 0.5), "")
+        self.assertEqual(self.shown(False, 60.0), "")
 
 
 class Spots(unittest.TestCase):

@@ -114,6 +114,29 @@ class Numbers(unittest.TestCase):
             self.assertIn(told.cause, str(told))
             self.assertEqual(pickle.loads(pickle.dumps(told)).number, number)
 
+    def test_what_is_no_sheet_point_or_store(self):
+        for wrong in (10**9, "(job\n"):
+            with self.assertRaises(TypeError):
+                Job.from_sheet(wrong)
+        for store in (-1, 2**40, 1.5, True):
+            with self.assertRaises(ValueError):
+                SAMPLE.map(store)
+        for spots in (["12"], [("1_0", 0)], [(1,)], [(1, 2, 3)]):
+            with self.assertRaises(ValueError):
+                SAMPLE.points(spots)
+        for maps in ([], iter([])):
+            with self.assertRaises(ValueError):
+                joined(maps)
+
+    def test_numbers_of_another_kind(self):
+        """Whole numbers that are no int of Python's own, as NumPy has them."""
+
+        class Number:
+            def __index__(self):
+                return 5
+
+        self.assertEqual(Job(0, 0, 4, 1, Number(), [(0, 0, Number(), 5)]), Job(0, 0, 4, 1, 5, [(0, 0, 5, 5)]))
+
     def test_a_map_and_its_places(self):
         drawn = Job.from_sheet((TOP / "examples" / "bracket.sheet").read_bytes()).map()
         self.assertEqual((drawn.side, drawn.nodes), (64, 1008))

@@ -6,6 +6,7 @@ import random
 import unittest
 from fractions import Fraction
 
+from clearance.commands import rects
 from clearance.job import Job
 from clearance.rectangles import Rectangle, maximal
 from tests.samples import EXAMPLES, MAP, SHEET, Folder, command
@@ -148,6 +149,31 @@ class Rects(unittest.TestCase):
         ]:
             with self.subTest(words):
                 self.assertEqual(self.rects(*words)[:2], (2, ""))
+
+
+class Stock(unittest.TestCase):
+    """Cells that do not lie wholly on the stock are not clear."""
+
+    def test_cells_on_the_stock(self):
+        job = Job.from_sheet(SHEET)
+        rows = ["C" * 8] * 8
+        for stock, wanted in [
+            ((-8, -8, 16, 16), Rectangle(0, 0, 8, 8)),
+            ((-8, -8, 15, 16), Rectangle(0, 0, 7, 8)),
+            ((-7, -8, 16, 9), Rectangle(1, 0, 7, 4)),
+            ((-100, -4, 200, 4), Rectangle(0, 2, 8, 2)),
+        ]:
+            self.assertEqual(maximal(rects.on_stock(job, rows, stock)), [wanted])
+        self.assertEqual(maximal(rects.on_stock(job, rows, (8, 8, 9, 9))), [])
+
+    def test_through_the_command(self):
+        place = Folder()
+        self.addCleanup(place.cleanup)
+        sheet = place.file("s", SHEET)
+        status, out, _ = command("rects", sheet, "--stock", "-0.08", "-0.08", "0.16", "0.04", "--json")
+        self.assertEqual((status, json.loads(out)["rectangles"][0]["rows"]), (0, 2))
+        self.assertEqual(command("rects", sheet, "--stock", "5", "5", "1", "1")[0], 1)
+        self.assertEqual(command("rects", sheet, "--stock", "5", "5", "1", "0.001")[0], 2)
 
 
 if __name__ == "__main__":

@@ -49,7 +49,7 @@ def run(asked):
     if asked.json:
         console.put_json({"file": asked.sheet, "now": now, "advised": then})
     else:
-        console.put(comparison(asked.sheet, now, then))
+        console.put(comparison(f"{asked.sheet}, with {asked.store:,} numbers of store", now, then))
     return console.DONE
 
 
@@ -91,12 +91,12 @@ def in_range(number, limits):
     return limits[0] <= number <= limits[1]
 
 
-def comparison(path, now, then):
+def comparison(heading, now, then):
     """The two in columns."""
     lines = [f"{'':10}{'now':36}advised"]
     for name, tell in COLUMNS.items():
         lines.append(f"{name:10}{tell(now):36}{tell(then)}")
-    return "\n".join([path, *lines]) + "\n"
+    return "\n".join([heading, *lines]) + "\n"
 
 
 def length(value):

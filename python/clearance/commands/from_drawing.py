@@ -3,6 +3,7 @@
 import argparse
 import errno
 import os
+from dataclasses import replace
 from decimal import Decimal, InvalidOperation
 from fractions import Fraction
 
@@ -12,8 +13,9 @@ from ..drawings import dxf, svg
 from ..drawings.curves import Unusable
 from ..drawings.outline import outline_of, placed, reach_for
 from ..drawings.reading import BYTES_MOST, UNITS
+from ..findings import off_plate
 from ..gaps import gaps
-from ..lengths import hundredths, millimetres, plain, root_up
+from ..lengths import millimetres, plain, root_up
 
 SUMMARY = "make a job sheet from a DXF or an SVG drawing"
 DESCRIPTION = f"""\
@@ -55,14 +57,6 @@ def length(word):
     return Fraction(number)
 
 
-def whole(word):
-    """A length of whole hundredths, in hundredths."""
-    try:
-        return hundredths(word)
-    except ValueError as error:
-        raise argparse.ArgumentTypeError(str(error)) from error
-
-
 def plate_of(x, y, side):
     """The plate of a corner and a side in hundredths: x, y, n with the smallest 2^n that is not below the side."""
     if side < 1:
@@ -84,8 +78,8 @@ def arguments(parser):
     parser.add_argument(
         "--within", metavar="MM", type=closeness, default=Fraction(1, 100), help="how close cubics stay to arcs and splines (0.01)"
     )
-    parser.add_argument("--plate", metavar=("X", "Y", "SIDE"), nargs=3, type=whole, help=PLATE)
-    parser.add_argument("--at", metavar=("X", "Y"), nargs=2, type=whole, help=AT)
+    parser.add_argument("--plate", metavar=("X", "Y", "SIDE"), nargs=3, type=inputs.whole_length, help=PLATE)
+    parser.add_argument("--at", metavar=("X", "Y"), nargs=2, type=inputs.whole_length, help=AT)
     inputs.add_store(parser, library.PROGRAM_STORE, advice.STORE)
     parser.add_argument("-o", "--output", metavar="FILE", default="-", help="the sheet (standard output)")
     parser.add_argument(
@@ -112,6 +106,8 @@ def run(asked):
         raise console.found(f"{asked.drawing}: {error}") from error
     files = written_names(asked, len(jobs))
     facts = facts_of(drawing, outline, asked.reach, reach, files)
+    off = off_plate(replace(jobs[0], edges=outline.edges))
+    facts["warnings"] = [off[2]] if off else []
     write_all([(name, job.to_sheet()) for name, job in zip(files, jobs)])
     for sentence in sentences(facts):
         console.say(f"{asked.drawing}: {sentence}")
@@ -239,5 +235,6 @@ def sentences(facts):
     yield f"bounds: x from {across[0]} to {across[1]} mm, y from {up[0]} to {up[1]} mm"
     yield f"W is {facts['w_hundredths']} hundredths ({facts['w']} mm): no point of the drawing or of the outline is farther from the other"
     yield f"reach: {facts['reach_hundredths']} hundredths, {facts['reach_asked']} mm and W rounded up"
+    yield from (f"warning: {warning}" for warning in facts["warnings"])
     if len(files) > 1:
         yield f"written: {', '.join(files)}"

@@ -3,7 +3,6 @@
 import argparse
 import os
 import re
-from dataclasses import replace
 
 from .. import console, inputs, page, picture
 from ..maps import joined
@@ -79,11 +78,11 @@ def shown_name(path):
 
 def made(asked, given, others, rows):
     """What is asked for, as text."""
-    outlines = replace(given.job, edges=sum((other.job.edges for other in others), given.job.edges))
+    jobs = [other.job for other in others]
     if asked.overlay:
-        return picture.overlay(outlines, rows, asked.outline)
+        return picture.overlay(picture.together(given.job, jobs), rows, asked.outline)
     wide = asked.width or picture.DEFAULT_WIDTH
-    svg = picture.picture(outlines, rows, wide, asked.grid, asked.actual)
+    svg = picture.picture(given.job, rows, wide, asked.grid, asked.actual, jobs)
     if not asked.html:
         return svg
     source = "The letters are the library's." if asked.map is None else "The letters are those of the map file that was given."

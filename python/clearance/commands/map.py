@@ -3,6 +3,7 @@
 import os
 
 from .. import console, inputs
+from ..figures import many
 from ..library import PROGRAM_STORE, STORE_MOST
 from ..maps import LETTERS, joined, refusal_text
 
@@ -11,7 +12,8 @@ DESCRIPTION = """\
 Draws the map of a sheet and writes it to standard output, in the text of the program `clearmap`. Of a refused sheet that
 text is `(refused N)`, and the cause goes to standard error.
 
-Several sheets: with -o each gets a file of its own and a line that tells of it. Without, they have to be of one plate and
+Several sheets: with -o each gets a file of its own and a line that tells of it; where one is refused, a file that its map
+would have replaced stays. Without, they have to be of one plate and
 cell, as `clearance from --split` writes them, and one map is drawn of all: a cell is I where one sheet's map has I, C where
 all have C, and D elsewhere. Where reaches differ each outline keeps its own.
 
@@ -88,10 +90,11 @@ def many_maps(asked):
         progress.end()
         if told[-1]["status"] != console.DONE:
             console.say(told[-1]["message"])
-        elif not asked.json:
-            console.put(line(told[-1]))
+    # Told when all are drawn, so that a reader who has gone does not keep a map from being drawn.
     if asked.json:
         console.put_json(told)
+    else:
+        console.put("".join(line(answer) for answer in told if answer["status"] == console.DONE))
     return max(answer["status"] for answer in told)
 
 
@@ -107,4 +110,4 @@ def one_of_many(path, target, store):
 
 def line(answer):
     counts = ", ".join(f"{answer[letter]} {letter}" for letter in LETTERS)
-    return f"{answer['sheet']}: {answer['map']}, {answer['cells']} cells a side, {counts}, {answer['nodes']} nodes\n"
+    return f"{answer['sheet']}: {answer['map']}, {answer['cells']} cells a side, {counts}, {many(answer['nodes'], 'node')}\n"

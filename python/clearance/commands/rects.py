@@ -21,7 +21,9 @@ draws the map.
 EXAMPLES = """\
   clearance rects bracket.sheet
   clearance rects bracket.sheet bracket.map --holds 12 30.5 --json
+  clearance rects bracket.sheet --stock -10 -15 70 75.5
 """
+STOCK = "only cells that lie on a stock with this lower left corner, width and height in mm, where the plate is larger than the metal"
 MOST = 20
 HEADS = ("column", "row", "columns", "rows", "x mm", "y mm", "width mm", "height mm", "area mm²")
 
@@ -48,6 +50,7 @@ def arguments(parser):
         type=length,
         help="only those that a part of W by H mm fits in, parallel to the axes, either way round",
     )
+    parser.add_argument("--stock", metavar=("X", "Y", "W", "H"), nargs=4, type=inputs.whole_length, help=STOCK)
     many = parser.add_mutually_exclusive_group()
     many.add_argument("--most", metavar="COUNT", type=count, default=MOST, help=f"list so many at most ({MOST})")
     many.add_argument("--all", action="store_true", help="list all")
@@ -85,6 +88,17 @@ def wanted(job, rectangles, part):
     return [rectangle for rectangle in rectangles if rectangle.holds(width, height)]
 
 
+def on_stock(job, rows, stock):
+    """The rows with the cells blotted out that do not lie wholly on the stock."""
+    if not stock:
+        return rows
+    x, y, width, height = stock
+    cell, places = 1 << job.m, range(len(rows))
+    columns = [x <= job.x + cell * i and job.x + cell * (i + 1) <= x + width for i in places]
+    lines = [y <= job.y + cell * j and job.y + cell * (j + 1) <= y + height for j in places]
+    return ["".join(letter if column and line else " " for letter, column in zip(row, columns)) for row, line in zip(rows, lines)]
+
+
 def condition(part):
     return f" for a part of {plain(part[0])} by {plain(part[1])} mm" if part else ""
 
@@ -97,7 +111,8 @@ def heading(total, listed, part):
 def run(asked):
     inputs.one_standard_input(asked.sheet, asked.map)
     given = inputs.load_sheet(asked.sheet)
-    found = wanted(given.job, maximal(inputs.rows_of(asked.map, given)), asked.holds)
+    rows = on_stock(given.job, inputs.rows_of(asked.map, given), asked.stock)
+    found = wanted(given.job, maximal(rows), asked.holds)
     if not found:
         raise console.found(f"{asked.map or asked.sheet}: there is no clear rectangle{condition(asked.holds)}")
     numbers = [told(given.job, one) for one in (found if asked.all else found[: asked.most])]
