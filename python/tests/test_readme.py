@@ -14,15 +14,15 @@ README = (PYTHON / "README.md").read_text(encoding="utf-8")
 
 class Examples(unittest.TestCase):
     def test_the_module(self):
-        """All blocks in turn, as one session at the top of the repository."""
+        """All blocks in turn, run one after the other at the top of the repository."""
         blocks = re.findall(r"```pycon\n(.*?)```", README, re.DOTALL)
         self.assertEqual(len(blocks), README.count("```pycon"))
-        session = doctest.DocTestParser().get_doctest("".join(blocks), {}, "python/README.md", "README.md", 0)
-        self.assertGreater(len(session.examples), 8)
+        taken = doctest.DocTestParser().get_doctest("".join(blocks), {}, "python/README.md", "README.md", 0)
+        self.assertGreater(len(taken.examples), 8)
         said, before = [], os.getcwd()
         os.chdir(ROOT)
         try:
-            doctest.DocTestRunner(verbose=False).run(session, out=said.append)
+            doctest.DocTestRunner(verbose=False).run(taken, out=said.append)
         finally:
             os.chdir(before)
         self.assertEqual("".join(said), "")
