@@ -5,6 +5,7 @@ import json
 import math
 import os
 import random
+import re
 import subprocess
 import sys
 import tempfile
@@ -127,6 +128,46 @@ SPLINE = spline(3, [0] * 4 + [1] * 4, (0, 0, 0), (1, 3, 0), (4, 3, 0), (5, 0, 0)
 class Dxf(Case):
     def edges(self, *entities, words=(), **more):
         return self.job(self.file("part.dxf", dxf_file(*entities, **more)), *words)[0].edges
+
+    def test_inserts_that_ezdxf_would_misplace(self):
+        """An insert has no shear and no scaled spacing: a rotated one in an uneven one, and an array in any, are findings."""
+        inner = block("B", LINE)
+        for pairs, outer, said in [
+            ([(50, 90)], [(41, 2), (42, 1)], "scaled unevenly"),
+            ([(50, 45)], [(41, 1), (42, -3)], "scaled unevenly"),
+            ([(70, 2), (44, 20)], [(41, 2), (42, 2)], "array of inserts"),
+        ]:
+            nested = inner + block("C", insert("B", *points(10, (0, 0, 0)), *pairs))
+            path = self.file("part.dxf", dxf_file(insert("C", *points(10, (0, 0, 0)), *outer), blocks=nested))
+            self.finding(path, said)
+
+    def test_inserts_in_inserts(self):
+        inner = block("B", LINE)
+        for pairs, outer, edge in [
+            ([(50, 90)], [(41, 2), (42, 2)], (0, 0, -1000, 2000)),
+            ([(50, 90)], [(41, -2), (42, 2)], (0, 0, 1000, 2000)),
+            ([(41, 3), (42, 1)], [(41, 2), (42, 1)], (0, 0, 6000, 500)),
+        ]:
+            nested = inner + block("C", insert("B", *points(10, (0, 0, 0)), *pairs))
+            self.assertEqual(self.edges(insert("C", *points(10, (0, 0, 0)), *outer), blocks=nested), (edge,))
+
+    def test_what_goes_around_more_than_once_is_whole(self):
+        for last in (360, 360.000001, 360 + 1e-13, 725):
+            self.assertEqual(len(self.edges(entity("ARC", *points(10, (20, 10)), (40, 5), (50, 0), (51, last)))), 3, last)
+        for last in (6.283185307, 6.28318531, 6.2832, 9.0):
+            whole = newer("ELLIPSE", "AcDbEllipse", *points(10, (20, 10, 0)), *points(11, (5, 0, 0)), (40, 0.5), (41, 0), (42, last))
+            self.assertEqual(outline_box(self.edges(whole))[:3:2], (1500, 2500), last)
+        speck = newer("ELLIPSE", "AcDbEllipse", *points(10, (20, 10, 0)), *points(11, (5, 0, 0)), (40, 0.5), (41, 1.0), (42, 1.0 + 1e-10))
+        self.assertEqual(outline_box(self.edges(LINE, speck)), (0, 0, 2270, 1210))
+
+    def test_a_bulge_that_is_as_good_as_none(self):
+        """It is a line, and W has what the arc is off it."""
+        for bulge, chord in ((1e-12, 4000), (1e-10, 1000), (1e-8, 100)):
+            line = newer("LWPOLYLINE", "AcDbPolyline", (90, 2), (70, 0), *points(10, (0, 0)), (42, bulge), *points(10, (chord, 0)))
+            job, said = self.job(self.file("part.dxf", dxf_file(line)))
+            self.assertEqual(job.edges, ((0, 0, 100 * chord, 0),))
+            w = float(re.search(r"W is ([0-9.]+) hundredths", said)[1])
+            self.assertTrue(bulge * chord * 50 <= w <= bulge * chord * 50 + 2e-6, (bulge, w))
 
     def test_a_line(self):
         self.assertEqual(self.edges(LINE), ((0, 0, 1000, 500),))
@@ -319,6 +360,22 @@ class Svg(Case):
 
     def box(self, *shapes, **more):
         return outline_box(self.edges(*shapes, **more))
+
+    def test_smooth_commands_behind_the_other_kind(self):
+        """The standard takes the current point for their first control point; svgelements does not, so they are findings."""
+        wrong = "M10,50 C10,80 40,80 40,50 T80,50", "M10,50 Q25,90 40,50 S70,10 80,50", "M1,5 S7,1 8,5 T9,9", "M1,5 Q2,9 4,5 T8,5 s1,1 2,2"
+        for data in wrong:
+            self.finding(self.file("part.svg", svg_file(f'<path d="{data}"/>')), "behind")
+        for data in ("M10,50 C10,80 40,80 40,50 S70,10 80,50", "M1,5 Q2,9 4,5 T8,5", "M1,3 C1,2 3,4 5,6 L7,8 T9,9", "M1,1 L5,5 S7,7 9,5"):
+            self.assertGreater(len(self.edges(f'<path d="{data}"/>')), 1)
+
+    def test_arcs_that_are_as_good_as_straight(self):
+        for radius in (1e7, 1e9, 1e12):
+            job, said = self.job(self.file("part.svg", svg_file(f'<path d="M1,5 A{radius:g},{radius:g} 0 0 1 51,5"/>')))
+            self.assertEqual(job.edges, ((100, 3500, 5100, 3500),))
+            w = float(re.search(r"W is ([0-9.]+) hundredths", said)[1])
+            sagitta = 100 * 50**2 / (8 * radius)
+            self.assertTrue(sagitta <= w <= 3 * sagitta + 1e-6, (radius, w))
 
     def test_shapes_with_y_upward(self):
         self.assertEqual(self.edges('<line x1="1" y1="2" x2="11" y2="3"/>'), ((100, 3800, 1100, 3700),))

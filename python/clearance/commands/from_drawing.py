@@ -31,8 +31,9 @@ rounded. Lines that go on exactly straight are joined; edges without length are 
 say C, and in reach where one of them says I.
 
 DXF, read by the package ezdxf: the model space, LINE, LWPOLYLINE, POLYLINE, ARC, CIRCLE, ELLIPSE, SPLINE and INSERT, all
-in the plane z = 0, on all layers. SVG, read by the package svgelements: all shapes and paths, by their centre lines, y upward
-from the lower left corner of the viewBox. Text is left out: convert it to paths. Files have {BYTES_MOST:,} bytes at most.
+in the plane z = 0, on all layers, hidden ones too. SVG, read by the package svgelements: all shapes and paths, by their
+centre lines, y upward from the lower left corner of the viewBox. Text is left out: convert it to paths. Files have
+{BYTES_MOST:,} bytes at most.
 """
 EXAMPLES = """\
   clearance from examples/drawings/bracket.dxf --reach 2.5 -o bracket.sheet
@@ -228,7 +229,9 @@ def sentences(facts):
     yield from facts["remarks"]
     gap = facts["widest_gap"]
     if gap:
-        yield f"{counted(facts['loose_ends'], 'end')} that meet no other; the widest gap is {gap['mm']} mm, at ({', '.join(gap['at'])}) mm"
+        meet = "meets" if facts["loose_ends"] == 1 else "meet"
+        widest = f"the widest gap is {gap['mm']} mm, at ({', '.join(gap['at'])}) mm"
+        yield f"{counted(facts['loose_ends'], 'end')} that {meet} no other; {widest}"
     else:
         yield "closed: every end meets another"
     across, up = facts["bounds"]["x"], facts["bounds"]["y"]

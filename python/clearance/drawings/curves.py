@@ -12,6 +12,11 @@ from fractions import Fraction
 FINENESS = 10**6
 
 
+# An arc that is nowhere farther than this from its chord is taken for the chord, and that goes into W. Its centre would be
+# so far off that double arithmetic loses more.
+FLAT = 0.01
+
+
 class Unusable(Exception):
     """A drawing that no sheet can be made of; the message says why, and `place` is a line and a column, or zeros."""
 
@@ -43,9 +48,13 @@ def floats(point):
 
 @dataclass(frozen=True)
 class Bezier:
-    """A line, a quadratic or a cubic by its two, three or four control points, exact."""
+    """A line, a quadratic or a cubic by its two, three or four control points, exact.
+
+    `doubt` is how far it may be, both ways, from what the drawing has: a line stands for an arc that is as good as straight.
+    """
 
     points: tuple
+    doubt: float = 0.0
 
 
 @dataclass(frozen=True)

@@ -11,7 +11,7 @@ import math
 from collections import Counter
 from fractions import Fraction
 
-from .curves import Arc, Bezier, Spline, Unusable, floats, taken
+from .curves import FLAT, Arc, Bezier, Spline, Unusable, floats, taken
 from .reading import PARTS_MOST, UNITS, Drawing, package
 
 BLOCKS_DEEP_MOST = 50
@@ -152,6 +152,7 @@ class Reader:
             raise Unusable(f"{insert}: blocks in blocks go deeper than {BLOCKS_DEEP_MOST}")
         if insert.block() is None:
             raise Unusable(f"{insert}: its block {insert.dxf.get('name', '')!r} is missing")
+        self.nested(insert)
         self.room_for(insert.mcount)
         places = insert.multi_insert() if insert.mcount > 1 else [insert]
         for placed in places:
@@ -163,6 +164,18 @@ class Reader:
                 if kind in self.readers or kind == "INSERT":
                     raise Unusable(f"{insert}: ezdxf cannot place a {kind} of its block")
             self.left_out.update(skipped)
+
+    def nested(self, insert):
+        """Ends at an insert within a block that ezdxf would put elsewhere: an insert has no shear, nor spacing that is scaled."""
+        scales = [abs(insert.dxf.get(name, 1.0)) for name in ("xscale", "yscale")]
+        uneven = abs(scales[0] - scales[1]) > 1e-12 * max(scales)
+        for inner in insert.block():
+            if inner.dxftype() != "INSERT":
+                continue
+            if inner.mcount > 1:
+                raise Unusable(f"{insert}: its block has an array of inserts, which is not read within an insert: explode it")
+            if uneven and inner.dxf.get("rotation", 0.0) % 360:
+                raise Unusable(f"{insert}: it is scaled unevenly, and its block has a rotated insert, which is not read so: explode it")
 
     # Points and lengths.
 
@@ -217,7 +230,8 @@ class Reader:
         if not (math.isfinite(first) and math.isfinite(last)):
             raise Unusable(f"{entity} has an angle that is no number")
         side, size = self.side(entity), float(self.hundredths(abs(radius)))
-        sweep = last - first if last - first == 360 else (last - first) % 360 or 360.0
+        # What goes around more than once is whole; so is an arc that ends where it begins.
+        sweep = 360.0 if last - first >= 360 else (last - first) % 360 or 360.0
         middle = floats(self.own(entity, centre, side))
         self.curves.append(Arc(middle, (side * size, 0.0), (0.0, size), math.radians(first % 360), math.radians(sweep)))
 
@@ -229,10 +243,10 @@ class Reader:
         side = self.side(entity)
         u = floats(self.flat(entity, major))
         v = (-side * ratio * u[1], side * ratio * u[0])
-        sweep = (last - first) % math.tau
-        if abs(sweep) < 1e-9 or math.tau - sweep < 1e-9:
-            sweep = math.tau
-        self.curves.append(Arc(floats(self.flat(entity, centre)), u, v, first % math.tau, sweep))
+        # Two pi has no exact decimal: what lacks less than 10^-9 of it is whole, and what that adds is doubt.
+        sweep = math.tau if last - first >= math.tau - 1e-9 else (last - first) % math.tau or math.tau
+        doubt = math.hypot(*u) * 1e-9 if 0 < math.tau - (last - first) < 1e-9 else 0.0
+        self.curves.append(Arc(floats(self.flat(entity, centre)), u, v, first % math.tau, sweep, doubt=doubt))
 
     def light_polyline(self, entity):
         self.room_for(len(entity))
@@ -277,9 +291,9 @@ def bulged(start, end, bulge):
     """The line or the arc between two points that a bulge tells."""
     (ax, ay), (bx, by) = floats(start), floats(end)
     half = math.hypot(bx - ax, by - ay) / 2
-    # An arc that is less than 10^-7 of a hundredth from its chord is its chord, within what numbers are taken to.
-    if abs(bulge) * half < 1e-7:
-        return Bezier((start, end))
+    # At its middle the arc is half a chord times the bulge from its chord, elsewhere less.
+    if abs(bulge) < 0.1 and abs(bulge) * half <= FLAT:
+        return Bezier((start, end), abs(bulge) * half)
     # The centre lies (1 - bulge^2) / (4 bulge) chords to the left of the chord's middle.
     away = (1 - bulge * bulge) / (4 * bulge)
     centre = (ax + bx) / 2 - away * (by - ay), (ay + by) / 2 + away * (bx - ax)

@@ -72,7 +72,7 @@ def joined(parts):
             close_run(found, begin)
             begin = len(found)
         if len(found) > begin and goes_on(found[-1], piece):
-            piece = BezierPiece((found.pop().control[0], piece.control[-1]))
+            piece = one_line(found.pop(), piece)
         found.append(piece)
     close_run(found, begin)
     return found
@@ -81,7 +81,12 @@ def joined(parts):
 def close_run(found, begin):
     """Joins the last line of a closed run to its first."""
     if len(found) - begin > 2 and goes_on(found[-1], found[begin]):
-        found[begin] = BezierPiece((found.pop().control[0], found[begin].control[-1]))
+        found[begin] = one_line(found.pop(), found[begin])
+
+
+def one_line(before, after):
+    """Two lines that go on straight as one. Each part of it is as far from the drawing as it was."""
+    return BezierPiece((before.control[0], after.control[-1]), max(before.doubt, after.doubt))
 
 
 def meet(before, after):

@@ -46,12 +46,13 @@ class BezierPiece:
     """A line or a cubic, exact. At a parameter t an edge is off it by the mean of the control points' moves that t gives."""
 
     control: tuple
+    doubt: float = 0.0
 
     def bound(self, edge):
         rows = moves(edge, self.control)
         if not any(number for row in rows for number in row):
-            return Fraction(0)
-        return root_up(longest_squared(rows, HALVINGS if len(edge) > 2 else 0))
+            return up(self.doubt)
+        return root_up(longest_squared(rows, HALVINGS if len(edge) > 2 else 0)) + up(self.doubt)
 
 
 def elevated(points):

@@ -11,7 +11,7 @@ from collections import Counter
 from dataclasses import dataclass
 from fractions import Fraction
 
-from .curves import Arc, Bezier, Unusable, floats, taken
+from .curves import FLAT, Arc, Bezier, Unusable, floats, taken
 from .reading import UNITS, Drawing, package
 from .svg_check import PLAIN, Check, exact, scale_of, view_box
 
@@ -179,8 +179,14 @@ class Reader:
         centre = tuple(arc.center)
         u, v = (tuple(a - b for a, b in zip(end, centre)) for end in (arc.prx, arc.pry))
         across, up = math.hypot(*u), math.hypot(*v)
-        if not arc.sweep or not across or not up:
+        stretch = Arc((0, 0), *(floats(self.place.turned(*axis)) for axis in ((1, 0), (0, 1))), 0, 0).longest()
+        if not across or not up:
             self.line(arc.start, arc.end)
+            return
+        straight = stretch * off_chord(math.dist(arc.start, arc.end), across, up)
+        # The arc's own doubt, below, may be larger than what the chord is off by.
+        if not arc.sweep or (abs(arc.sweep) < 1 and straight <= max(FLAT, stretch * ROOT_DOUBT * max(across, up))):
+            self.curves.append(Bezier((self.point(arc.start), self.point(arc.end)), straight))
             return
         middle = tuple((a + b) / 2 for a, b in zip(arc.start, arc.end))
         if math.dist(centre, middle) <= ROOT_DOUBT * min(across, up):
@@ -191,7 +197,6 @@ class Reader:
         if abs(sweep - arc.sweep) > 1e-6:
             raise Unusable(f"an arc from {tuple(arc.start)} to {tuple(arc.end)} cannot be read")
         own = max(self.off_end(centre, u, v, first, arc.start), self.off_end(centre, u, v, last, arc.end))
-        stretch = Arc((0, 0), *(floats(self.place.turned(*axis)) for axis in ((1, 0), (0, 1))), 0, 0).longest()
         doubt = stretch * (own + ROOT_DOUBT * max(across, up))
         self.arc(centre, u, v, first, sweep, (arc.start, arc.end), doubt)
 
@@ -204,3 +209,14 @@ class Reader:
     @staticmethod
     def off_end(centre, u, v, angle, end):
         return math.dist(Arc(centre, u, v, 0, 0).point(angle), tuple(end))
+
+
+def off_chord(chord, across, up):
+    """How far an arc of an ellipse, of half a turn at most, is from its chord; across and up are the semi-axes.
+
+    On the unit circle an arc of angle q is 1 - cos(q/2) from its chord, at most q^2 / 8, and its chord is at least 2q / pi long. The
+    ellipse is an image of it in which lengths grow by the larger semi-axis at most and by the smaller one at least. So q is at
+    most pi/2 chords by the smaller, and q^2 / 8 times the larger is at most pi^2 / 32 chord^2 larger / smaller^2; a
+    hundredth more is for the semi-axes, which are known to ten digits at most.
+    """
+    return 1.01 * math.pi**2 / 32 * chord * chord * max(across, up) / min(across, up) ** 2

@@ -63,6 +63,10 @@ class Node:
     parts: int = 0
 
 
+# The commands behind which svgelements takes a smooth one's first control point wrongly.
+MISTAKEN = {"T": ("C", "S"), "S": ("Q", "T")}
+
+
 class Fault(Exception):
     """Path data or a transform that svgelements would not read to its end."""
 
@@ -72,12 +76,16 @@ def path_parts(data):
     at = BETWEEN.match(data).end()
     if at < len(data) and data[at] not in "Mm":
         raise Fault("path data must begin with M")
-    parts, steps, begin = 0, 0, 0
+    parts, steps, begin, before = 0, 0, 0, ""
     while at < len(data):
         command = COMMAND.match(data, at)
         if command is None:
             raise Fault(f"path data has {data[at : at + 12]!r} where a command or a number should be")
         letter = command.group().upper()
+        if before in MISTAKEN.get(letter, ()):
+            # By the standard the first control point is the current point there; svgelements mirrors the other kind's.
+            raise Fault(f"path data has {letter} behind {before}, which is not read: write its control point out")
+        before = letter
         begin = parts if letter == "M" else begin
         at, groups = groups_end(data, command.end(), command.group())
         parts += groups
