@@ -12,7 +12,7 @@ from ..bounds import outline_box
 from ..drawings import dxf, svg
 from ..drawings.curves import Unusable
 from ..drawings.outline import outline_of, placed, reach_for
-from ..drawings.reading import BYTES_MOST, UNITS
+from ..drawings.reading import BYTES_MOST, UNITS, Wish
 from ..findings import off_plate
 from ..gaps import gaps
 from ..lengths import millimetres, plain, root_up
@@ -43,7 +43,11 @@ EXAMPLES = """\
 """
 PLATE = "the plate: its lower left corner, and a side that it has at least, in millimetres (the smallest around the part)"
 AT = "move the part so that the lower left corner of its box is there, in millimetres"
+LEAVE_OUT = "kinds of what is drawn to leave out, as text,hatch"
+KINDS = {**dxf.KINDS, **svg.KINDS}
 WITHIN = Fraction(1, 10_000), Fraction(10)
+# So many findings are told one by one.
+FINDINGS_MOST = 20
 
 
 def length(word):
@@ -72,10 +76,23 @@ def closeness(word):
     return number
 
 
+def kinds(word):
+    """The kinds of a list with commas."""
+    found = frozenset(filter(None, word.split(",")))
+    unknown = sorted(found - set(KINDS))
+    if unknown or not found:
+        raise argparse.ArgumentTypeError(f"{word!r}: the kinds are {', '.join(KINDS)}")
+    return found
+
+
 def arguments(parser):
     parser.add_argument("drawing", metavar="DRAWING", help="a DXF or an SVG file")
     parser.add_argument("--reach", metavar="MM", type=length, required=True, help="the jet's reach in millimetres")
     parser.add_argument("--units", choices=UNITS, help="the unit of the drawing's numbers, whatever the drawing says")
+    parser.add_argument("--leave-out", metavar="KIND,…", type=kinds, action="append", default=[], help=LEAVE_OUT)
+    parser.add_argument("--layout", metavar="NAME", help="of a DXF drawing this layout in place of its model space")
+    parser.add_argument("--layer", metavar="NAME", action="append", default=[], help="of a DXF drawing this layer alone; may be repeated")
+    parser.add_argument("--not-layer", metavar="NAME", action="append", default=[], help="of a DXF drawing all but this layer; may be repeated")
     parser.add_argument(
         "--within", metavar="MM", type=closeness, default=Fraction(1, 100), help="how close cubics stay to arcs and splines (0.01)"
     )
@@ -102,7 +119,7 @@ def run(asked):
         reach = reach_for(asked.reach * 100, outline.off)
         jobs = jobs_of(outline.edges, reach, plate, asked)
     except Unusable as error:
-        raise console.found(f"{console.at(asked.drawing, *error.place)}: {error}") from error
+        raise unfit(asked.drawing, error.all) from error
     except advice.Unadvisable as error:
         raise console.found(f"{asked.drawing}: {error}") from error
     files = written_names(asked, len(jobs))
@@ -117,6 +134,20 @@ def run(asked):
     return console.DONE
 
 
+def unfit(path, reasons):
+    """Says the findings of a drawing but the last, with which the verb ends."""
+    told = [f"{console.at(path, *reason.place)}: {reason}" for reason in reasons[:FINDINGS_MOST]]
+    if len(reasons) > FINDINGS_MOST:
+        told.append(f"{path}: and {len(reasons) - FINDINGS_MOST} findings more")
+    for message in told[:-1]:
+        console.say(message)
+    return console.found(told[-1])
+
+
+def wish_of(asked):
+    return Wish(asked.units, frozenset().union(*asked.leave_out), asked.layout, tuple(asked.layer), tuple(asked.not_layer))
+
+
 def read(asked):
     """The drawing and its outline. What a file is its first bytes tell, not its name."""
     data = console.read_bytes(asked.drawing, BYTES_MOST)
@@ -125,7 +156,7 @@ def read(asked):
         raise Unusable("it is no DXF and no SVG drawing")
     if len(data) > BYTES_MOST:
         raise Unusable(f"it has more than {BYTES_MOST:,} bytes, the most of a drawing that are read")
-    drawing = kind.read(data, UNITS.get(asked.units))
+    drawing = kind.read(data, wish_of(asked))
     if not drawing.curves:
         raise Unusable("there is nothing in it that makes an edge" + left_out_words(drawing.left_out, "; left out: {}"))
     return drawing, placed(outline_of(drawing.curves, float(asked.within * 100)), asked.at)
@@ -178,6 +209,8 @@ def facts_of(drawing, outline, asked_reach, reach, files):
     return {
         "files": [name for name in files if name != "-"],
         "edges": {"count": len(outline.edges), "lines": lines, "cubics": len(outline.edges) - lines},
+        "unit": drawing.unit,
+        "size": [told(right - left), told(high - low)],
         "joined": outline.joined,
         "without_length": outline.dropped,
         "left_out": dict(sorted(drawing.left_out.items())),
@@ -220,6 +253,7 @@ def sentences(facts):
     edges, files = facts["edges"], facts["files"]
     room = f"on {len(files)} sheets" if len(files) > 1 else f"of {library.EDGES_MOST}"
     yield f"{counted(edges['count'], 'edge')} {room}: {counted(edges['lines'], 'line')}, {counted(edges['cubics'], 'cubic')}"
+    yield f"unit: {facts['unit']}; the outline is {facts['size'][0]} by {facts['size'][1]} mm"
     if facts["joined"]:
         yield f"{counted(facts['joined'], 'line')} joined to others that go on straight"
     if facts["without_length"]:
@@ -236,7 +270,8 @@ def sentences(facts):
         yield "closed: every end meets another"
     across, up = facts["bounds"]["x"], facts["bounds"]["y"]
     yield f"bounds: x from {across[0]} to {across[1]} mm, y from {up[0]} to {up[1]} mm"
-    yield f"W is {facts['w_hundredths']} hundredths ({facts['w']} mm): no point of the drawing or of the outline is farther from the other"
+    drawn = "of what was taken" if facts["left_out"] else "of the drawing"
+    yield f"W is {facts['w_hundredths']} hundredths ({facts['w']} mm): no point {drawn} or of the outline is farther from the other"
     yield f"reach: {facts['reach_hundredths']} hundredths, {facts['reach_asked']} mm and W rounded up"
     yield from (f"warning: {warning}" for warning in facts["warnings"])
     if len(files) > 1:

@@ -23,6 +23,15 @@ class Unusable(Exception):
     def __init__(self, message, line=0, column=0):
         super().__init__(message)
         self.place = (line, column)
+        self.all = (self,)
+
+
+class Findings(Unusable):
+    """Several reasons at once, in the order of the drawing."""
+
+    def __init__(self, reasons):
+        super().__init__(str(reasons[0]), *reasons[0].place)
+        self.all = tuple(reasons)
 
 
 def taken(number):

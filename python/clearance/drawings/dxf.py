@@ -12,7 +12,7 @@ from collections import Counter
 from fractions import Fraction
 
 from .curves import FLAT, Arc, Bezier, Spline, Unusable, floats, taken
-from .reading import PARTS_MOST, UNITS, Drawing, package
+from .reading import PARTS_MOST, UNITS, Drawing, Undrawn, package
 
 BLOCKS_DEEP_MOST = 50
 # Measured: following splines of so many control points takes about 5 s. Those that are one Bézier do not count, and those
@@ -33,6 +33,11 @@ INSUNITS = {
     13: UNITS["mm"] / 1000,
     14: 10 * UNITS["cm"],
 }
+INSUNIT_NAMES = {1: "in", 2: "ft", 4: "mm", 5: "cm", 6: "m", 8: "microinch", 9: "mil", 10: "yard", 13: "micrometre", 14: "decimetre"}
+
+
+# Kinds of what is drawn and makes no edge, as --leave-out has them, with what each stands for.
+KINDS = {"text": "text"}
 
 
 def looks_like(data):
@@ -45,19 +50,21 @@ def looks_like(data):
     return lines[:2] == [b"0", b"SECTION"]
 
 
-def read(data, unit=None):
-    """The curves of a drawing's bytes; `unit` is a length in hundredths, in place of what the drawing says."""
+def read(data, wish):
+    """The curves of a drawing's bytes."""
     package("ezdxf")
     warnings = Warnings()
     with quiet(warnings):
         try:
             document = loaded(data)
-            reader = Reader(document, unit if unit is not None else stated(data, document))
+            unit, told_unit = (UNITS[wish.unit], wish.by_option()) if wish.unit else stated(data, document)
+            reader = Reader(document, unit, Undrawn(wish.leave_out))
         except Unusable:
             raise
         except Exception as error:  # ezdxf raises what comes: KeyError, TypeError, its own
             raise Unusable(f"it is no DXF drawing that can be read: {told(error)}") from error
-    return Drawing(reader.curves, reader.left_out, warnings.said)
+    reader.undrawn.settle()
+    return Drawing(reader.curves, told_unit, reader.undrawn.counts, warnings.said)
 
 
 def told(error):
@@ -104,20 +111,20 @@ def loaded(data):
 
 
 def stated(data, document):
-    """The unit that a drawing states. For a file without a header ezdxf makes one up, in metres: that counts as none."""
+    """The unit that a drawing states, with words for it. For a file without a header ezdxf makes one up, in metres: that counts as none."""
     code = document.header.get("$INSUNITS", 0) if b"$INSUNITS" in data else 0
     if code not in INSUNITS:
         words = "states no unit" if code == 0 else f"states a unit that is not known here ($INSUNITS {code})"
         raise Unusable(f"it {words}: give --units {'|'.join(UNITS)}")
-    return INSUNITS[code]
+    return INSUNITS[code], f"{INSUNIT_NAMES[code]}, by $INSUNITS {code}"
 
 
 class Reader:
-    """The curves of a document, and the counts of what was left out."""
+    """The curves of a document, and what is drawn beside them."""
 
-    def __init__(self, document, unit):
+    def __init__(self, document, unit, undrawn):
         self.scale = unit
-        self.curves, self.left_out = [], Counter()
+        self.curves, self.undrawn = [], undrawn
         self.entities, self.spline_points = 0, 0
         self.readers = {
             "LINE": self.line,
@@ -139,7 +146,7 @@ class Reader:
         elif kind in self.readers:
             self.readers[kind](entity)
         else:
-            self.left_out[kind] += 1
+            self.undrawn.add("text", f"{entity} makes no edge")
 
     def room_for(self, count):
         self.entities += count
@@ -163,7 +170,8 @@ class Reader:
             for kind in skipped:
                 if kind in self.readers or kind == "INSERT":
                     raise Unusable(f"{insert}: ezdxf cannot place a {kind} of its block")
-            self.left_out.update(skipped)
+            for kind, count in skipped.items():
+                self.undrawn.add("text", f"{insert}: {count} {kind} of its block", count=count)
 
     def nested(self, insert):
         """Ends at an insert within a block that ezdxf would put elsewhere: an insert has no shear, nor spacing that is scaled."""
@@ -256,7 +264,7 @@ class Reader:
 
     def polyline(self, entity):
         if not (entity.is_2d_polyline or entity.is_3d_polyline):
-            self.left_out[f"POLYLINE ({entity.get_mode()})"] += 1
+            self.undrawn.add("text", f"{entity}: {entity.get_mode()} makes no edge")
             return
         self.room_for(len(entity.vertices))
         side = self.side(entity) if entity.is_2d_polyline else 1

@@ -1,11 +1,12 @@
-"""What reading a DXF and an SVG drawing share: units, the packages that read them, and what reading gives."""
+"""What reading a DXF and an SVG drawing share: what is asked of it, units, the packages that read it, and what reading gives."""
 
 from collections import Counter
 from dataclasses import dataclass
 from fractions import Fraction
 from importlib import import_module
+from typing import Optional
 
-from .curves import Unusable
+from .curves import Findings, Unusable
 
 # Measured: the slowest files of this size take a few seconds to read.
 BYTES_MOST = 1_000_000
@@ -13,16 +14,63 @@ BYTES_MOST = 1_000_000
 PARTS_MOST = 20_000
 
 # Hundredths of a millimetre in a unit.
-UNITS = {"mm": Fraction(100), "cm": Fraction(1000), "m": Fraction(100_000), "in": Fraction(2540), "ft": Fraction(30_480)}
+INCH = Fraction(2540)
+UNITS = {
+    "mm": Fraction(100),
+    "cm": Fraction(1000),
+    "m": Fraction(100_000),
+    "in": INCH,
+    "ft": 12 * INCH,
+    "px": INCH / 96,
+    "pt": INCH / 72,
+    "pc": INCH / 6,
+}
+
+
+@dataclass(frozen=True)
+class Wish:
+    """What the user asks of a drawing: a unit in place of its own, kinds to leave out, and of a DXF drawing a layout and layers."""
+
+    unit: Optional[str] = None
+    leave_out: frozenset = frozenset()
+    layout: Optional[str] = None
+    layers: tuple = ()
+    not_layers: tuple = ()
+
+    def by_option(self):
+        """The unit that --units gives, in words."""
+        return f"{self.unit}, by --units"
 
 
 @dataclass(frozen=True)
 class Drawing:
-    """Curves in their order, counts of what was left out by its kind, and remarks."""
+    """Curves in their order, the unit that was taken and whence, in words, counts of what was left out by its kind, and remarks."""
 
     curves: list
+    unit: str
     left_out: Counter
     remarks: list
+
+
+class Undrawn:
+    """What a drawing draws and a sheet cannot: counted where the user leaves its kind out, else a finding."""
+
+    def __init__(self, leave_out):
+        self.leave_out = leave_out
+        self.counts = Counter()
+        self.findings = []
+
+    def add(self, kind, message, place=(0, 0), count=1):
+        """`message` names the element and says what is wrong; what to do is said here."""
+        if kind in self.leave_out:
+            self.counts[kind] += count
+        else:
+            self.findings.append(Unusable(f"{message}; --leave-out {kind} leaves it out", *place))
+
+    def settle(self):
+        """Ends the reading where there are findings."""
+        if self.findings:
+            raise Findings(self.findings)
 
 
 def package(name):

@@ -7,15 +7,16 @@ lines, whatever their strokes and fillings; what is not displayed (display: none
 import contextlib
 import io
 import math
-from collections import Counter
 from dataclasses import dataclass
 from fractions import Fraction
 
 from .curves import FLAT, Arc, Bezier, Unusable, floats, taken
-from .reading import UNITS, Drawing, package
+from .reading import UNITS, Drawing, Undrawn, package
 from .svg_check import PLAIN, Check, exact, scale_of, view_box
 
-LEFT_OUT = ("text", "image", "foreignObject", "flowRoot")
+# Kinds of what is drawn and makes no edge, as --leave-out has them, with what each stands for.
+KINDS = {"text": "text", "image": "images", "foreign": "foreignObject"}
+TAGS = {"text": "text", "image": "image", "foreignObject": "foreign", "flowRoot": "text"}
 # svgelements computes the centre of an arc by a root, which near a half turn has half of a double's places.
 ROOT_DOUBT = 2.0**-24
 
@@ -26,25 +27,27 @@ def looks_like(data):
     return start.startswith((b"<", b"<\x00"))
 
 
-def read(data, unit=None):
-    """The curves of a drawing's bytes; `unit` is a length in hundredths of one unit of the viewBox, in place of the page's size."""
+def read(data, wish):
+    """The curves of a drawing's bytes. A unit that is asked for is that of the viewBox, in place of the page's size."""
     elements = package("svgelements")
     check = Check().run(data)
     page = check.page
-    scale = (unit, unit) if unit is not None else scale_of(page)
+    scale = (UNITS[wish.unit],) * 2 if wish.unit else scale_of(page)
+    unit = wish.by_option() if wish.unit else "by the page's size and its viewBox"
     if scale is None:
         raise Unusable(f"its width and height with a viewBox state no physical size: give --units {'|'.join(UNITS)}")
     try:
         with contextlib.redirect_stdout(io.StringIO()), contextlib.redirect_stderr(io.StringIO()):
             root = elements.SVG.parse(io.BytesIO(data), reify=False, parse_display_none=True)
-        reader = Reader(elements, root, upright(elements, root, page, scale))
+        reader = Reader(elements, root, upright(elements, root, page, scale), Undrawn(wish.leave_out))
     except Unusable:
         raise
     except Exception as error:  # svgelements raises what comes
         raise Unusable(f"it is no SVG drawing that can be read: {type(error).__name__}: {' '.join(str(error).split())[:200]}") from error
     if reader.parts != check.parts:
         raise Unusable(f"svgelements gives {reader.parts} of its {check.parts} lines and curves")
-    return Drawing(reader.curves, reader.left_out, [])
+    reader.undrawn.settle()
+    return Drawing(reader.curves, unit, reader.undrawn.counts, [])
 
 
 @dataclass(frozen=True)
@@ -93,11 +96,11 @@ def upright(elements, root, page, scale):
 
 
 class Reader:
-    """The curves of all shapes, and the counts of what was left out."""
+    """The curves of all shapes, and what is drawn beside them."""
 
-    def __init__(self, elements, root, onto):
+    def __init__(self, elements, root, onto, undrawn):
         self.elements, self.onto = elements, onto
-        self.curves, self.left_out, self.parts = [], Counter(), 0
+        self.curves, self.undrawn, self.parts = [], undrawn, 0
         for element in root.elements():
             values = getattr(element, "values", None) or {}
             shown = str(values.get("display", "")).lower() != "none"
@@ -105,8 +108,8 @@ class Reader:
                 self.parts += self.parts_of(element)
                 if shown:
                     self.shape(element)
-            elif shown and str(values.get("tag", "")) in LEFT_OUT:
-                self.left_out[values["tag"]] += 1
+            elif shown and str(values.get("tag", "")) in TAGS:
+                self.undrawn.add(TAGS[values["tag"]], f"a <{values['tag']}> makes no edge")
 
     def parts_of(self, shape):
         """How many parts a shape has, as the check counts them."""
