@@ -656,7 +656,7 @@ class Verb(Case):
             "left out: 1 text",
             "2 ends that meet no other; the widest gap is 14.1422 mm, at (0, 40) mm",
             "bounds: x from 0 to 10 mm, y from 30 to 40 mm",
-            "the outline is 20 by 10 mm",
+            "the outline is 10 by 10 mm",
             "W is 0 hundredths (0 mm): no point of what was taken or of the outline",
             "reach: 251 hundredths, 2.501 mm and W rounded up",
         ):

@@ -106,12 +106,13 @@ class Reader:
 
     def remarks(self):
         """What there is to say of what was taken."""
-        if self.hidden:
-            yield f"{self.hidden} of its entities are hidden, by themselves or by their layers, and are taken as if they were not"
-        if self.wide:
-            yield f"{self.wide} of its polylines have a width; their centre lines are taken"
-        if self.thick:
-            yield f"{self.thick} of its entities have a thickness along z; what they are in the plane is taken"
+        for what, count in (
+            ("hidden entities, taken as if they were shown; --not-layer leaves a layer out", self.hidden),
+            ("polylines with a width, of which the centre line is taken", self.wide),
+            ("entities with a thickness along z, of which the plane's part is taken", self.thick),
+        ):
+            if count:
+                yield f"{what}: {count}"
 
     def entity(self, entity, above):
         self.room_for(1)
@@ -192,13 +193,14 @@ class Reader:
 
     def placed(self, insert, placed, below):
         """The entities of a block at one place. Those that make no edge have been told."""
-        lost = []
-        for entity in placed.virtual_entities(skipped_entity_callback=lambda entity, _reason: lost.append(entity)):
-            source = entity.source_of_copy
-            if self.is_read(entity) and (source is None or self.is_read(source)):
-                self.entity(entity, below)
-        for entity in filter(self.is_read, lost):
-            raise Unusable(f"{named(insert)}: ezdxf cannot place {named(entity)} of its block")
+        matrix = placed.matrix44()
+        for entity in filter(self.is_read, insert.block()):
+            try:
+                parts = list(moved(entity.copy(), matrix))
+            except Exception as error:  # ezdxf raises what comes
+                raise Unusable(f"{named(insert)}: ezdxf cannot place {named(entity)} of its block: {told(error)}") from error
+            for part in parts:
+                self.entity(part, below)
 
     def is_read(self, entity):
         return entity.dxftype() in self.readers or entity.dxftype() == "INSERT"
@@ -333,6 +335,21 @@ class Reader:
         points = tuple(self.flat(entity, point) for point in entity.control_points)
         weights = tuple(map(float, entity.weights)) or (1.0,) * len(points)
         self.curves.append(Spline(entity.dxf.degree, tuple(map(float, entity.knots)), points, weights))
+
+
+def moved(entity, matrix):
+    """A copy of an entity where a matrix takes it. What is round and scaled unevenly becomes ellipses, as a part of a polyline too."""
+    from ezdxf.entities import Ellipse
+    from ezdxf.math.transformtools import NonUniformScalingError
+
+    try:
+        yield entity.transform(matrix)
+    except NonUniformScalingError:
+        if entity.dxftype() in ("ARC", "CIRCLE"):
+            yield Ellipse.from_arc(entity).transform(matrix)
+        else:
+            for part in entity.virtual_entities():
+                yield from moved(part, matrix)
 
 
 def attribute(entity, name, default):

@@ -66,8 +66,8 @@ class Layers:
         for option, asked in (("--layer", self.wanted), ("--not-layer", self.unwanted)):
             for key, name in asked.items():
                 if key not in self.names:
-                    there = f"the layers are {listed(sorted(self.names.values()))}" if self.names else "it has no entities"
-                    undrawn.refuse(f"{option} {name!r}: no entity is on that layer; {there}")
+                    there = f"the layers are {listed(sorted(self.names.values()))}" if self.names else "there is nothing to read"
+                    undrawn.refuse(f"{option} {name!r}: nothing that is read is on that layer; {there}")
 
     def facts(self):
         """What was chosen, where something was."""
