@@ -4,9 +4,8 @@ Status: 0 done, 1 refused or a finding, 2 bad usage, 3 reading or writing failed
 """
 
 import errno
-import json
 import os
-import shutil
+import stat
 import sys
 import time
 
@@ -81,7 +80,7 @@ def write_bytes(path, data):
             file.write(data)
         if beside:
             if os.path.exists(target):
-                shutil.copymode(target, beside)
+                os.chmod(beside, stat.S_IMODE(os.stat(target).st_mode))
             os.replace(beside, target)
     except OSError as error:
         if beside and os.path.exists(beside):
@@ -112,6 +111,8 @@ def put(data):
 
 
 def put_json(value):
+    import json  # when it is used: the command starts quicker without
+
     put(json.dumps(value, indent=2) + "\n")
 
 

@@ -10,6 +10,7 @@ import os
 from functools import lru_cache
 from pathlib import Path
 
+from . import console
 from .version import VERSION
 
 JOB_NUMBERS = 583
@@ -50,8 +51,11 @@ ARGUMENTS = {
 }
 
 
-class LibraryMissing(Exception):
+class LibraryMissing(console.Ended):
     """No library was found, or one that was built for other rows, nodes or functions."""
+
+    def __init__(self, message):
+        super().__init__(console.FAILED, message)
 
 
 def places():

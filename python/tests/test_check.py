@@ -197,9 +197,14 @@ class Check(unittest.TestCase):
         self.assertEqual((status, [len(one["warnings"]) for one in told]), (1, [0, 2]))
 
     def test_unreadable(self):
-        status, text, error = command("check", self.square, "no such sheet")
-        self.assertEqual((status, text), (3, ""))
+        """What cannot be read does not end the others."""
+        status, text, error = command("check", "no such sheet", self.square)
+        self.assertEqual((status, text), (3, command("check", self.square)[1]))
         self.assertTrue(error.startswith("clearance: no such sheet: "))
+        status, text, _ = command("check", "--json", self.square, "no such sheet")
+        told = json.loads(text)
+        self.assertEqual((status, [one["accepted"] for one in told]), (3, [True, False]))
+        self.assertIn("no such sheet: ", told[1]["failed"])
 
     def test_usage(self):
         self.assertIn("clearance check part.sheet", command("check", "--help")[1])

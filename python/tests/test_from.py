@@ -15,8 +15,9 @@ from pathlib import Path
 from unittest import mock
 
 from clearance.bounds import outline_box
-from clearance.drawings import dxf, outline, svg, svg_check
+from clearance.drawings import dxf, outline, reading, svg, svg_check
 from clearance.drawings.fitting import pieces
+from clearance.drawings.reading import Wish
 from clearance.job import Job
 
 from .samples import command_bytes
@@ -239,9 +240,10 @@ class Dxf(Case):
         outer = block("OUTER", insert("INNER", *points(10, (100, 0, 0))), entity("TEXT", *points(10, (0, 0)), (40, 1), (1, "hi")))
         turned = insert("OUTER", *points(10, (0, 0, 0)), (41, 2), (42, 2), (50, 90))
         path = self.file("part.dxf", dxf_file(turned, blocks=inner + outer))
-        job, err = self.job(path)
+        self.finding(path, "1 TEXT makes no edge")
+        job, err = self.job(path, "--leave-out", "text")
         self.assertEqual(job.edges, ((0, 20000, -1000, 22000),))
-        self.assertIn("left out: 1 TEXT", err)
+        self.assertIn("left out: 1 text", err)
         rows = insert("INNER", *points(10, (0, 0, 0)), (70, 2), (71, 3), (44, 50), (45, 30))
         self.assertEqual(len(self.edges(rows, blocks=inner)), 6)
         uneven = block("ROUND", entity("CIRCLE", *points(10, (0, 0)), (40, 10)))
@@ -270,9 +272,13 @@ class Dxf(Case):
 
     def test_others_are_left_out_and_counted(self):
         others = entity("TEXT", *points(10, (0, 0)), (40, 1), (1, "hi")) * 2 + entity("POINT", *points(10, (0, 0)))
-        _, err = self.job(self.file("part.dxf", dxf_file(LINE, others)))
-        self.assertIn("left out: 1 POINT, 2 TEXT", err)
-        self.finding(self.file("part.dxf", dxf_file(others)), "nothing in it that makes an edge; left out: 1 POINT, 2 TEXT")
+        path = self.file("part.dxf", dxf_file(LINE, others))
+        self.finding(path, "2 TEXT make no edge", "--leave-out text leaves it out")
+        _, err = self.job(path, "--leave-out", "text")
+        self.assertIn("left out: 1 point, 2 text", err)
+        self.assertIn("no point of what was taken", err)
+        nothing = self.file("part.dxf", dxf_file(others))
+        self.finding(nothing, "nothing in it that makes an edge; left out: 1 point, 2 text", words=("--leave-out", "text"))
         self.finding(self.file("part.dxf", dxf_file()), "nothing in it")
 
     def test_numbers_that_are_none(self):
@@ -291,7 +297,17 @@ class Dxf(Case):
         self.finding(self.file("part.dxf", dxf_file(entity("LINE", *points(10, (0, 0))))), "has no end")
 
     def test_far_coordinates(self):
-        self.finding(self.file("part.dxf", dxf_file(entity("LINE", *points(10, (0, 0)), *points(11, (10_001, 0))))), "10,000 mm at most")
+        far = self.file("part.dxf", dxf_file(entity("LINE", *points(10, (0, 0)), *points(11, (10_001, 0)))))
+        self.finding(far, "10,000 mm at most", "--at moves it")
+        self.assertEqual(self.job(far, "--at", "-5000", "0")[0].edges, ((-500000, 0, 500100, 0),))
+        wide = self.file("part.dxf", dxf_file(entity("LINE", *points(10, (-6000, 0)), *points(11, (16_000, 0)))))
+        self.finding(wide, "it is 22,000.00 by 0.00 mm, and the largest plate 10,485.76 mm wide")
+        for number in (1e308, -1e200, 1e20):
+            for code in (10, 30):
+                huge = entity("LINE", (10, 0), (20, 0), (30, 0), *points(11, (5, 5, 0))).replace(f"{code}\n0\n", f"{code}\n{number!r}\n", 1)
+                status, _, err = ran(self.file("part.dxf", dxf_file(huge)), "--reach", "1")
+                self.assertEqual((status, len(err) < 200), (1, True), err)
+                self.assertIn("mm is the most that is read", err)
 
     def test_broken_files(self):
         good = dxf_file(LINE)
@@ -569,20 +585,38 @@ class Verb(Case):
         self.assertEqual(ran(path)[0], 2)
         for reach in ("0", "-1", "1/3", "nan", "inf", "x", "1e999999999", "1e-999999999"):
             self.assertEqual(ran(path, "--reach", reach)[0], 2, reach)
-        for words in (("--split",), ("--json",), ("--units", "px"), ("--within", "0"), ("--within", "0.00001"), ("--within", "11")):
+        for words in (("--split",), ("--json",), ("--units", "yd"), ("--leave-out", "lines"), ("--leave-out", ","), ("--within", "0"), ("--within", "0.00001"), ("--within", "11")):
             self.assertEqual(ran(path, "--reach", "1", *words)[0], 2, words)
 
     def test_without_the_packages(self):
         svg_path, dxf_path = self.file("part.svg", svg_file()), self.file("part.dxf", dxf_file(LINE))
         code = (
             "import sys; sys.modules['ezdxf'] = sys.modules['svgelements'] = None\n"
-            "from clearance import cli; cli.VERBS = {'from': 'from_drawing'}; sys.exit(cli.main(sys.argv[1:]))"
+            "from clearance import cli; sys.exit(cli.main(sys.argv[1:]))"
         )
         for path, name in ((svg_path, "svgelements"), (dxf_path, "ezdxf")):
             command = [sys.executable, "-c", code, "from", str(path), "--reach", "1"]
             done = subprocess.run(command, capture_output=True, check=False, cwd=Path(__file__).resolve().parents[1])
-            self.assertEqual((done.returncode, done.stdout), (1, b""), done.stderr)
+            self.assertEqual((done.returncode, done.stdout), (2, b""), done.stderr)
             self.assertIn(f"needs the Python package {name} (Debian: python3-{name}; pip: {name})".encode(), done.stderr)
+
+    def test_another_python_that_has_the_package(self):
+        """It is named; python3 of the path here is one that has every package."""
+        python = self.file("python3", "#!/bin/sh\nexit 0\n")
+        python.chmod(0o755)
+        with mock.patch.object(reading.sys, "executable", "/usr/bin/python3"), mock.patch.dict(os.environ, {"PATH": str(self.folder)}):
+            self.assertEqual(reading.other_python("json"), str(python))
+            with self.assertRaisesRegex(reading.PackageMissing, f"PYTHON={python} clearance"):
+                reading.package("no_such_package")
+            python.write_text("#!/bin/sh\nexit 1\n")
+            self.assertIsNone(reading.other_python("json"))
+
+    def test_layers_and_layouts_are_of_dxf_drawings(self):
+        path = self.file("part.svg", svg_file())
+        for words in (["--layer", "0"], ["--not-layer", "0"], ["--layout", "Model"]):
+            status, out, err = ran(path, "--reach", "1", *words)
+            self.assertEqual((status, out), (2, b""), err)
+            self.assertIn("are of DXF drawings", err)
 
     @needs_ezdxf
     def test_a_plate_and_a_place(self):
@@ -600,15 +634,20 @@ class Verb(Case):
         self.assertNotIn("warning", said)
         for place, warning in (("240", "edges go off the plate"), ("206", "edges come closer than the reach to the plate's border")):
             self.assertIn(warning, self.job(path, "--plate", "0", "0", "300", "--at", place, "20")[1])
-        self.finding(path, "out of its range", words=("--plate", "0", "0", "99999"))
+        for words, said in (
+            (["0", "0", "20000"], "the side is 20000 mm, and goes from 0.01 to 10485.76 mm"),
+            (["0", "-10001", "9"], "Y is -10001 mm, and goes from -10000 to 10000 mm"),
+        ):
+            status, out, err = ran(path, "--reach", "2.5", "--plate", *words)
+            self.assertEqual((status, out, err), (2, b"", f"clearance: --plate: {said}\n"))
         for words in (["--plate", "0", "0"], ["--plate", "0", "0", "0"], ["--plate", "0", "0", "x"], ["--at", "0.005", "0"]):
             self.assertEqual(ran(path, "--reach", "2.5", *words)[0], 2, words)
 
     @needs_svgelements
     def test_what_is_said(self):
         shapes = '<path d="M0 0L5 0L10 0L10 10"/><path d="M20 5L20 5"/><text>x</text>'
-        status, out, err = ran(self.file("part.svg", svg_file(shapes)), "--reach", "2.501")
-        self.assertEqual(status, 0)
+        status, out, err = ran(self.file("part.svg", svg_file(shapes)), "--reach", "2.501", "--leave-out", "text")
+        self.assertEqual(status, 0, err)
         self.assertEqual(Job.from_sheet(out).reach, 251)
         for sentence in (
             "2 edges of 64: 2 lines, 0 cubics",
@@ -617,7 +656,8 @@ class Verb(Case):
             "left out: 1 text",
             "2 ends that meet no other; the widest gap is 14.1422 mm, at (0, 40) mm",
             "bounds: x from 0 to 10 mm, y from 30 to 40 mm",
-            "W is 0 hundredths (0 mm)",
+            "the outline is 10 by 10 mm",
+            "W is 0 hundredths (0 mm): no point of what was taken or of the outline",
             "reach: 251 hundredths, 2.501 mm and W rounded up",
         ):
             self.assertIn(sentence, err)
@@ -702,7 +742,7 @@ class Examples(Case):
 
     def test_w_holds_and_is_at_most_twice_what_sampling_finds(self):
         for path, reader in self.drawings():
-            curves = reader.read(path.read_bytes()).curves
+            curves = reader.read(path.read_bytes(), Wish()).curves
             worst = 0.0
             for piece in outline.joined([piece for curve in curves for piece in pieces(curve, 1.0)]):
                 edge = edge_of(piece)

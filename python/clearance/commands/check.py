@@ -21,7 +21,8 @@ It warns where the outline goes off the plate, or comes closer than the reach to
 where the outline is smaller than 5 mm (were millimetres written instead of hundredths?); and where an end of an edge
 meets no other end. A warning changes no verdict, and the status only with --strict.
 
-Status 1 means that a sheet is refused or, with --strict, that there is a warning; the report is written all the same.
+Status 1 means that a sheet is refused or, with --strict, that there is a warning; 3, that a file cannot be read. The report
+on the others is written all the same.
 """
 EXAMPLES = """\
   clearance check part.sheet
@@ -38,16 +39,25 @@ def arguments(parser):
 
 def run(asked):
     inputs.one_standard_input(*asked.sheets)
-    # All files are read before anything is written, so that nothing is written where one cannot be read.
-    texts = [(path, inputs.sheet_bytes(path)) for path in asked.sheets]
-    reports = [checked(path, data) for path, data in texts]
+    reports = [read_and_checked(path) for path in asked.sheets]
     for report in reports:
         report.complain()
     if asked.json:
         console.put_json([report.data() for report in reports])
     else:
         console.put("\n".join(filter(None, (report.text() for report in reports))))
+    if any(isinstance(report, Unread) for report in reports):
+        return console.FAILED
     return console.FOUND if any(report.is_wrong(asked.strict) for report in reports) else console.DONE
+
+
+def read_and_checked(path):
+    """The report of a file; one that cannot be read does not end the others."""
+    try:
+        data = inputs.sheet_bytes(path)
+    except console.Ended as ended:
+        return Unread(path, str(ended))
+    return checked(path, data)
 
 
 def checked(path, data):
@@ -59,6 +69,26 @@ def checked(path, data):
     given = inputs.Input(path, data, read_sheet(data), job)
     by_program = not trees.refusal(job.edges, job.grain, library.PROGRAM_STORE)
     return Accepted(given, drawn, by_program, findings(given))
+
+
+@dataclass(frozen=True)
+class Unread:
+    """A file that cannot be read: it has only a message."""
+
+    path: str
+    message: str
+
+    def complain(self):
+        console.say(self.message)
+
+    def is_wrong(self, _strict):
+        return True
+
+    def text(self):
+        return ""
+
+    def data(self):
+        return {"file": self.path, "accepted": False, "failed": self.message}
 
 
 @dataclass(frozen=True)

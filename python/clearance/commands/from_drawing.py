@@ -7,15 +7,21 @@ from dataclasses import replace
 from decimal import Decimal, InvalidOperation
 from fractions import Fraction
 
-from .. import advice, console, inputs, library
+from .. import advice, console, inputs, library, sheets
 from ..bounds import outline_box
 from ..drawings import dxf, svg
 from ..drawings.curves import Unusable
 from ..drawings.outline import outline_of, placed, reach_for
-from ..drawings.reading import BYTES_MOST, UNITS, Wish
+from ..drawings.reading import BYTES_MOST, UNITS, PackageMissing, Wish
 from ..findings import off_plate
 from ..gaps import gaps
 from ..lengths import millimetres, plain, root_up
+
+
+
+def kinds_text(kinds_of):
+    return "; ".join(f"{kind} ({meaning})" for kind, meaning in kinds_of.items())
+
 
 SUMMARY = "make a job sheet from a DXF or an SVG drawing"
 DESCRIPTION = f"""\
@@ -30,10 +36,17 @@ rounded. Lines that go on exactly straight are joined; edges without length are 
 `clearance advise`, but for a plate that is given. Of a drawing that is split, a cell is clear where the maps of all its sheets
 say C, and in reach where one of them says I.
 
-DXF, read by the package ezdxf: the model space, LINE, LWPOLYLINE, POLYLINE, ARC, CIRCLE, ELLIPSE, SPLINE and INSERT, all
-in the plane z = 0, on all layers, hidden ones too. SVG, read by the package svgelements: all shapes and paths, by their
+Everything that is drawn is taken, or nothing is written: whatever makes no edge is a finding, unless --leave-out names its kind.
+Then, and where a layout or layers are chosen, W is said of what was taken.
+
+DXF, read by the package ezdxf: the model space, or the layout that --layout names; LINE, LWPOLYLINE, POLYLINE, ARC, CIRCLE,
+ELLIPSE, SPLINE and INSERT, all in the plane z = 0, on all layers, hidden ones too, or on those that --layer names; of polylines
+with a width the centre lines. An entity on layer 0 of a block is on its insert's layer. A POINT has no length: it is left out,
+and counted. What ezdxf had to mend is a finding. SVG, read by the package svgelements: all shapes and paths, by their
 centre lines, y upward from the lower left corner of the viewBox. Text is left out: convert it to paths. Files have
 {BYTES_MOST:,} bytes at most.
+
+Kinds that --leave-out takes, of a DXF drawing: {kinds_text(dxf.KINDS)}.
 """
 EXAMPLES = """\
   clearance from examples/drawings/bracket.dxf --reach 2.5 -o bracket.sheet
@@ -64,8 +77,13 @@ def length(word):
 
 def plate_of(x, y, side):
     """The plate of a corner and a side in hundredths: x, y, n with the smallest 2^n that is not below the side."""
-    if side < 1:
-        raise console.misused("--plate: the side is above 0")
+    lowest, highest = sheets.COORDINATES
+    for name, number in (("X", x), ("Y", y)):
+        if not lowest <= number <= highest:
+            raise console.misused(f"--plate: {name} is {told(number)} mm, and goes from {told(lowest)} to {told(highest)} mm")
+    most = 1 << sheets.EXPONENTS[1]
+    if not 0 < side <= most:
+        raise console.misused(f"--plate: the side is {told(side)} mm, and goes from 0.01 to {told(most)} mm")
     return x, y, (side - 1).bit_length()
 
 
@@ -118,6 +136,8 @@ def run(asked):
         drawing, outline = read(asked)
         reach = reach_for(asked.reach * 100, outline.off)
         jobs = jobs_of(outline.edges, reach, plate, asked)
+    except PackageMissing as error:
+        raise console.misused(f"{asked.drawing}: {error}") from error
     except Unusable as error:
         raise unfit(asked.drawing, error.all) from error
     except advice.Unadvisable as error:
@@ -156,9 +176,11 @@ def read(asked):
         raise Unusable("it is no DXF and no SVG drawing")
     if len(data) > BYTES_MOST:
         raise Unusable(f"it has more than {BYTES_MOST:,} bytes, the most of a drawing that are read")
+    if kind is svg and (asked.layout is not None or asked.layer or asked.not_layer):
+        raise console.misused(f"{asked.drawing}: --layout, --layer and --not-layer are of DXF drawings, and this is an SVG drawing")
     drawing = kind.read(data, wish_of(asked))
     if not drawing.curves:
-        raise Unusable("there is nothing in it that makes an edge" + left_out_words(drawing.left_out, "; left out: {}"))
+        raise Unusable("; ".join(["there is nothing in it that makes an edge", *choices(drawing.left_out, drawing.chosen)]))
     return drawing, placed(outline_of(drawing.curves, float(asked.within * 100)), asked.at)
 
 
@@ -214,6 +236,7 @@ def facts_of(drawing, outline, asked_reach, reach, files):
         "joined": outline.joined,
         "without_length": outline.dropped,
         "left_out": dict(sorted(drawing.left_out.items())),
+        "chosen": drawing.chosen,
         "remarks": drawing.remarks,
         "loose_ends": len(open_ends),
         "widest_gap": widest_gap(open_ends),
@@ -240,8 +263,16 @@ def widest_gap(open_ends):
     return {"mm": plain(root_up(widest.squared * 256)), "at": [told(number) for number in widest.end]}
 
 
-def left_out_words(left_out, words):
-    return words.format(", ".join(f"{count} {kind}" for kind, count in sorted(left_out.items()))) if left_out else ""
+def choices(left_out, chosen):
+    """What was left out, and what was chosen, in words."""
+    if left_out:
+        yield f"left out: {many(left_out)}"
+    for what, choice in chosen.items():
+        yield f"{what} taken: {many(choice['taken']) or 'none'}; not taken: {many(choice['not_taken']) or 'none'}"
+
+
+def many(counts):
+    return ", ".join(f"{count} {name}" for name, count in sorted(counts.items()))
 
 
 def counted(number, thing):
@@ -258,8 +289,7 @@ def sentences(facts):
         yield f"{counted(facts['joined'], 'line')} joined to others that go on straight"
     if facts["without_length"]:
         yield f"{counted(facts['without_length'], 'edge')} without length left out"
-    if facts["left_out"]:
-        yield left_out_words(facts["left_out"], "left out: {}")
+    yield from choices(facts["left_out"], facts["chosen"])
     yield from facts["remarks"]
     gap = facts["widest_gap"]
     if gap:
@@ -270,7 +300,8 @@ def sentences(facts):
         yield "closed: every end meets another"
     across, up = facts["bounds"]["x"], facts["bounds"]["y"]
     yield f"bounds: x from {across[0]} to {across[1]} mm, y from {up[0]} to {up[1]} mm"
-    drawn = "of what was taken" if facts["left_out"] else "of the drawing"
+    partial = facts["left_out"] or any(choice["not_taken"] for choice in facts["chosen"].values())
+    drawn = "of what was taken" if partial else "of the drawing"
     yield f"W is {facts['w_hundredths']} hundredths ({facts['w']} mm): no point {drawn} or of the outline is farther from the other"
     yield f"reach: {facts['reach_hundredths']} hundredths, {facts['reach_asked']} mm and W rounded up"
     yield from (f"warning: {warning}" for warning in facts["warnings"])

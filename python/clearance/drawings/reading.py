@@ -1,7 +1,11 @@
 """What reading a DXF and an SVG drawing share: what is asked of it, units, the packages that read it, and what reading gives."""
 
+import os
+import shutil
+import subprocess
+import sys
 from collections import Counter
-from dataclasses import dataclass
+from dataclasses import dataclass, field
 from fractions import Fraction
 from importlib import import_module
 from typing import Optional
@@ -12,6 +16,9 @@ from .curves import Findings, Unusable
 BYTES_MOST = 1_000_000
 # Blocks in blocks, and uses of uses, can stand for any number of lines and curves.
 PARTS_MOST = 20_000
+
+# So long another Python is asked for a package.
+PYTHON_SECONDS = 5
 
 # Hundredths of a millimetre in a unit.
 INCH = Fraction(2540)
@@ -44,12 +51,16 @@ class Wish:
 
 @dataclass(frozen=True)
 class Drawing:
-    """Curves in their order, the unit that was taken and whence, in words, counts of what was left out by its kind, and remarks."""
+    """Curves in their order, the unit that was taken and whence, in words, counts of what was left out by its kind, and remarks.
+
+    `chosen` has what was asked for by name, "layout" or "layers": how many entities each has under "taken" and "not_taken".
+    """
 
     curves: list
     unit: str
     left_out: Counter
     remarks: list
+    chosen: dict = field(default_factory=dict)
 
 
 class Undrawn:
@@ -67,10 +78,18 @@ class Undrawn:
         else:
             self.findings.append(Unusable(f"{message}; --leave-out {kind} leaves it out", *place))
 
+    def refuse(self, message, place=(0, 0)):
+        """A finding that nothing leaves out."""
+        self.findings.append(Unusable(message, *place))
+
     def settle(self):
         """Ends the reading where there are findings."""
         if self.findings:
             raise Findings(self.findings)
+
+
+class PackageMissing(Unusable):
+    """A package that reads drawings is not there: nothing is wrong with the drawing."""
 
 
 def package(name):
@@ -78,4 +97,18 @@ def package(name):
     try:
         return import_module(name)
     except ImportError as error:
-        raise Unusable(f"reading it needs the Python package {name} (Debian: python3-{name}; pip: {name})") from error
+        needs = f"reading it needs the Python package {name} (Debian: python3-{name}; pip: {name})"
+        other = other_python(name)
+        raise PackageMissing(needs + (f"; PYTHON={other} clearance ... has it" if other else "")) from error
+
+
+def other_python(name):
+    """Another Python of this machine that has a package."""
+    for python in filter(None, ("/usr/bin/python3", shutil.which("python3"))):
+        try:
+            if not os.path.samefile(python, sys.executable):
+                subprocess.run([python, "-c", f"import {name}"], capture_output=True, check=True, timeout=PYTHON_SECONDS)
+                return python
+        except (OSError, ValueError, subprocess.SubprocessError):
+            continue
+    return None
