@@ -18,6 +18,7 @@ from clearance.bounds import outline_box
 from clearance.drawings import dxf, outline, reading, svg, svg_check
 from clearance.drawings.fitting import pieces
 from clearance.drawings.reading import Wish
+from clearance.drawings.svg_numbers import Fault
 from clearance.job import Job
 
 from .samples import command_bytes
@@ -378,12 +379,19 @@ class Svg(Case):
         return outline_box(self.edges(*shapes, **more))
 
     def test_smooth_commands_behind_the_other_kind(self):
-        """The standard takes the current point for their first control point; svgelements does not, so they are findings."""
-        wrong = "M10,50 C10,80 40,80 40,50 T80,50", "M10,50 Q25,90 40,50 S70,10 80,50", "M1,5 S7,1 8,5 T9,9", "M1,5 Q2,9 4,5 T8,5 s1,1 2,2"
-        for data in wrong:
-            self.finding(self.file("part.svg", svg_file(f'<path d="{data}"/>')), "behind")
-        for data in ("M10,50 C10,80 40,80 40,50 S70,10 80,50", "M1,5 Q2,9 4,5 T8,5", "M1,3 C1,2 3,4 5,6 L7,8 T9,9", "M1,1 L5,5 S7,7 9,5"):
-            self.assertGreater(len(self.edges(f'<path d="{data}"/>')), 1)
+        """The standard takes the current point for their first control point; svgelements mirrors the other kind's."""
+        for smooth, plain in (
+            ("M10,10 C10,30 40,30 40,10 T50,10", "M10,10 C10,30 40,30 40,10 Q40,10 50,10"),
+            ("M10,10 C10,30 40,30 40,10 T50,10 T58,4", "M10,10 C10,30 40,30 40,10 Q40,10 50,10 Q60,10 58,4"),
+            ("M10,10 Q25,39 40,10 S50,1 55,10", "M10,10 Q25,39 40,10 C40,10 50,1 55,10"),
+            ("M1,5 S7,1 8,5 T9,9", "M1,5 C1,5 7,1 8,5 Q8,5 9,9"),
+            ("M1,5 Q2,9 4,5 T8,5 s1,1 2,2", "M1,5 Q2,9 4,5 Q6,1 8,5 C8,5 9,6 10,7"),
+            ("M10,10 C10,30 40,30 40,10 S50,1 55,10", "M10,10 C10,30 40,30 40,10 C40,-10 50,1 55,10"),
+            ("M1,5 Q2,9 4,5 T8,5", "M1,5 Q2,9 4,5 Q6,1 8,5"),
+            ("M1,3 C1,2 3,4 5,6 L7,8 T9,9", "M1,3 C1,2 3,4 5,6 L7,8 Q7,8 9,9"),
+            ("M1,1 L5,5 S7,7 9,5", "M1,1 L5,5 C5,5 7,7 9,5"),
+        ):
+            self.assertEqual(self.edges(f'<path d="{smooth}"/>'), self.edges(f'<path d="{plain}"/>'), smooth)
 
     def test_arcs_that_are_as_good_as_straight(self):
         for radius in (1e7, 1e9, 1e12):
@@ -433,7 +441,7 @@ class Svg(Case):
             numbers = [round(chance.uniform(1, 20), 4) for _ in range(3)] + [chance.randrange(2), chance.randrange(2)]
             ends = [round(chance.uniform(-10, 10), 4) for _ in range(4)]
             path = f'<path transform="matrix({matrix})" d="M{ends[:2]}A{numbers}{ends[2:]}"/>'.replace("[", " ").replace("]", " ")
-            (arc,) = svg.read(svg_file(path).encode()).curves
+            (arc,) = svg.read(svg_file(path).encode(), Wish()).curves
             at = standard_arc(ends, *numbers)
             for step in range(17):
                 x, y = at(step / 16)
@@ -480,17 +488,21 @@ class Svg(Case):
     def test_units_are_asked_for(self):
         line = '<line x1="0" y1="0" x2="6" y2="0"/>'
         box = 'viewBox="0 0 60 40"'
-        for root in ("", 'width="60" height="40"', f'width="60px" height="40px" {box}', box, 'width="60mm" height="40mm"'):
-            self.finding(self.file("part.svg", svg_file(line, root=root)), "--units mm|cm|m|in|ft")
+        for root in ("", 'width="60" height="40"', f'width="60px" height="40px" {box}', box, f'width="100%" height="100%" {box}'):
+            self.finding(self.file("part.svg", svg_file(line, root=root)), "--units mm|cm|m|in|ft|px|pt|pc")
             edge = self.edges(line, root=root, words=("--units", "cm"))[0]
             self.assertEqual(edge[2] - edge[0], 6000)
         self.assertEqual(self.edges(line, words=("--units", "in"))[0], (0, 101600, 15240, 101600))
 
     def test_text_is_left_out(self):
         text = '<text x="1" y="1">Hi <tspan>you</tspan></text>'
-        _, err = self.job(self.file("part.svg", svg_file(text, '<line x1="0" y1="0" x2="5" y2="0"/>')))
+        path = self.file("part.svg", svg_file(text, '<line x1="0" y1="0" x2="5" y2="0"/>'))
+        self.finding(path, ":2:1: <text>: it makes no edge: convert it to paths; --leave-out text leaves it out")
+        _, err = self.job(path, "--leave-out", "text")
         self.assertIn("left out: 1 text", err)
-        self.finding(self.file("part.svg", svg_file("<text>Hi</text>")), "nothing in it that makes an edge; left out: 1 text")
+        self.assertIn("no point of what was taken", err)
+        alone = self.file("part.svg", svg_file("<text>Hi</text>"))
+        self.finding(alone, "nothing in it that makes an edge; left out: 1 text", words=("--leave-out", "text"))
 
     def test_faults_that_svgelements_passes_over(self):
         for shape in (
@@ -502,33 +514,37 @@ class Svg(Case):
             '<polyline points="0 0 1"/>',
             '<polyline points="0 0 1 x"/>',
             '<circle cx="5"/>',
-            '<ellipse rx="5"/>',
-            '<circle r="5mm"/>',
-            '<rect width="50%" height="3"/>',
+            '<ellipse cx="5"/>',
+            '<circle r="5em"/>',
+            '<circle r="5 mm"/>',
             '<rect width="-5" height="3"/>',
             '<g transform="turn(5)"/>',
             '<g style="transform: scale(2)"/>',
-            '<use href="#later"/><line id="later" x2="5"/>',
+            '<use href="#none"/>',
             '<use href="other.svg#a"/>',
             '<g id="a"><use href="#a"/></g>',
-            '<svg width="3" height="3"/>',
-            '<symbol id="s" viewBox="0 0 1 1"/>',
-            "<style>g {transform: scale(2)}</style>",
+            '<svg width="3" height="3" transform="scale(2)"/>',
+            '<svg viewBox="0 0 1"/>',
         ):
             self.finding(self.file("part.svg", svg_file('<line x1="0" y1="0" x2="5" y2="0"/>', shape)), ":3:")
 
     def test_path_data(self):
-        goods = {"": 0, " M1,2": 1, "m-1-2.5.5 3": 2, "M0 0a1 1 0 0110 0": 2, "M0 0a1 1 0 01.5.5z": 3, "M1e3-2E-1L3 4 5 6": 3, "M0 0zz": 3}
-        for good, parts in goods.items():
-            self.assertEqual(svg_check.path_parts(good)[0], parts, good)
+        goods = {
+            **{"": "", " M1,2": "M", "m-1-2.5.5 3": "ML", "M0 0a1 1 0 0110 0": "MA", "M0 0a1 1 0 01.5.5z": "MAZ", "M0 0zz": "MZZ"},
+            "M1e3-2E-1L3 4 5 6": "MLL",
+        }
+        for good, letters in goods.items():
+            self.assertEqual("".join(svg_check.path_letters(good)), letters, good)
         for bad in ("1 2", "M", "M1", "M1 2 3", "M0 0a1 1 0 2 1 1 1", "M0 0L1 2;", "M0 0zm", "M0 0h", "M0 0L nan 1", "M٣ 1", "M5. 1"):
-            with self.assertRaises(svg_check.Fault, msg=bad):
-                svg_check.path_parts(bad)
+            with self.assertRaises(Fault, msg=bad):
+                svg_check.path_letters(bad)
 
-    def test_lost_shapes_are_noticed(self):
-        # svgelements passes over a shape whose stroke it cannot read.
-        with mock.patch("svgelements.Rect.__init__", side_effect=ValueError):
-            self.finding(self.file("part.svg", svg_file('<rect width="5" height="5"/><line x2="5"/>')), "gives 1 of its 2 lines and curves")
+    def test_lost_parts_are_noticed(self):
+        path = self.file("part.svg", svg_file('<path d="M0 0L5 5L9 9"/>'))
+        with mock.patch("svgelements.Path.__iter__", return_value=iter(())):
+            self.finding(path, "<path>: svgelements gives 0 of its 3 lines and curves")
+        with mock.patch("svgelements.Path.__init__", side_effect=ValueError("what\ncomes")):
+            self.finding(path, "<path>: its path cannot be read: ValueError: what comes")
         self.assertEqual(len(self.edges('<rect width="0" height="5"/><circle r="0"/><path d=""/><line x2="5"/>')), 1)
 
     def test_entities_are_not_expanded(self):
@@ -545,10 +561,12 @@ class Svg(Case):
         uses = '<defs><line id="a0" x1="0" y1="0" x2="5" y2="0"/>'
         for level in range(1, 9):
             uses += f'<g id="a{level}">' + f'<use href="#a{level - 1}"/>' * 10 + "</g>"
-        self.finding(self.file("part.svg", svg_file(uses + "</defs>")), "too much")
+        self.finding(self.file("part.svg", svg_file(uses + '</defs><use href="#a8"/>')), "more than 10,000 elements")
         self.finding(self.file("part.svg", svg_file("<g>" * 5000 + "</g>" * 5000)), "deeper than")
-        long = '<g transform="' + "scale(1)" * 20_000 + '">' + '<circle r="1"/>' * 2000 + "</g>"
-        self.finding(self.file("part.svg", svg_file(long)), "too much")
+        long = '<defs><path id="p" d="M0 0' + "l1 1" * 1000 + '"/></defs>' + '<use href="#p"/>' * 30
+        self.finding(self.file("part.svg", svg_file(long)), "more than 20,000 lines and curves")
+        turns = '<g transform="' + "rotate(1)" * 40_000 + '"><line x2="5"/></g>'
+        self.assertEqual(len(self.edges(turns)), 1)
         many = '<path d="M0 0' + "l1 1" * 1_000_000 + '"/>'
         self.finding(self.file("part.svg", svg_file(many)), "more than 1,000,000 bytes")
 
