@@ -31,6 +31,12 @@ def many(count, thing):
     return f"{count:,} {thing}" + ("" if count == 1 else "s")
 
 
+def grains(found):
+    """The grain of one sheet or of several, as text."""
+    least, most = min(found), max(found)
+    return f"{least} ({length(least)} mm)" if least == most else f"{least} to {most} ({length(least)} to {length(most)} mm)"
+
+
 def sizes(job):
     """What a job's sheet states, for a report: names and texts."""
     left, low, right, high = outline_box(job.edges)
@@ -40,7 +46,7 @@ def sizes(job):
         "plate": f"{length(1 << job.n)} mm a side, lower left corner at {spot(job.x, job.y)} mm",
         "cell": f"{length(1 << job.m)} mm a side, {side} by {side} cells",
         "reach": f"{length(job.reach)} mm",
-        "grain": f"{job.grain} ({length(job.grain)} mm)",
+        "grain": grains([job.grain]),
         "edges": f"{len(job.edges)}: {lines} straight, {len(job.edges) - lines} cubic",
         "outline": f"{length(right - left)} by {length(high - low)} mm, from {spot(left, low)} to {spot(right, high)} mm",
     }

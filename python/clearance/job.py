@@ -101,9 +101,10 @@ class Drawn:
     def __init__(self, job, store=library.STORE_MOST):
         self.job = job
         self._row = job.row()
-        self._store = library.store_of(store)
-        number, cells, nodes = library.draw(self._row, self._store)
+        lent = library.store_of(store)
+        number, cells, nodes = library.draw(self._row, lent)
         check(number)
+        self._store = library.trees_in(lent, nodes)
         side = 1 << (job.n - job.m)
         self.map = Map(bytes(cells[: side * side]), side, job.x, job.y, 1 << job.m, nodes)
 
