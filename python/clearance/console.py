@@ -105,10 +105,11 @@ def write_all(files):
         for name, other in beside.items():
             os.replace(other, name)
     except OSError as error:
+        raise failed(name, error) from error
+    finally:
         for other in beside.values():
             if os.path.exists(other):
                 os.remove(other)
-        raise failed(name, error) from error
 
 
 def put(data):

@@ -7,6 +7,9 @@ from .job import is_line
 from .lengths import millimetres, plain
 
 
+NAMES_MOST = 6
+
+
 def twice_band(grain, m):
     """Twice the band E = 3 grains + 1.5 cell sides, which is whole."""
     return 6 * grain + 3 * (1 << m)
@@ -29,6 +32,11 @@ def spot(x, y):
 def many(count, thing):
     """A count of things, as text."""
     return f"{count:,} {thing}" + ("" if count == 1 else "s")
+
+
+def these(names):
+    """Names, as text: all of a few, or the first and the last."""
+    return ", ".join(names) if len(names) <= NAMES_MOST else f"{names[0]} ... {names[-1]}"
 
 
 def grains(found):

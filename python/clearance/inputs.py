@@ -221,10 +221,15 @@ def load_map(path):
     return map_rows(path, console.read_bytes(path, MAP_LIMIT))
 
 
+def is_outline(data):
+    """Whether a file begins as a part or a sheet does, and no map."""
+    return parts.looks_like(data) or data.startswith(b"(job")
+
+
 def load_map_or_sheets(path):
     """The rows of a map, or of the map of a sheet or part that stands in its place, and the outline of these."""
     data = sheet_bytes(path)
-    if not parts.looks_like(data) and not data.startswith(b"(job"):
+    if not is_outline(data):
         return map_rows(path, data[: MAP_LIMIT + 1]), None
     given = files_of(path, data)
     say_beside(given)
@@ -233,6 +238,8 @@ def load_map_or_sheets(path):
 
 
 def map_rows(path, data):
+    if is_outline(data):
+        raise console.found(f"{path}: this is a sheet or a part, and a map is expected here; --also takes further sheets")
     try:
         return sheets.read_map(data)
     except sheets.FormError as error:

@@ -114,7 +114,10 @@ class Drawn:
 
     def points(self, spots):
         """Bounds of each of any number of points (x, y), in millimetres and in their order."""
-        spots = [place(spot) for spot in spots]
+        return self.points_at([place(spot) for spot in spots])
+
+    def points_at(self, spots):
+        """The same of points in whole hundredths of 32 bits."""
         found = []
         for start in range(0, len(spots), library.SPOTS_MOST):
             found += self._asked(spots[start : start + library.SPOTS_MOST])

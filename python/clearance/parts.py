@@ -13,7 +13,7 @@ from dataclasses import dataclass
 
 from . import library
 from .bounds import outline_box
-from .job import Job, is_line
+from .job import Job, is_line, place
 from .lengths import millimetres, plain
 from .maps import joined
 from .nearest import Nearest
@@ -77,14 +77,22 @@ class DrawnPart:
 
     def points(self, spots):
         """Bounds of each point: of all sheets' the least, and the first sheet and edge with the least upper one."""
-        spots = list(spots)
-        return [least(found) for found in zip(*(drawn.points(spots) for drawn in self.each))]
+        return self.points_at([place(spot) for spot in spots])
+
+    def points_at(self, spots):
+        """The same of points in whole hundredths of 32 bits."""
+        found = self.each[0].points_at(spots)
+        for sheet, drawn in enumerate(self.each[1:], 1):
+            found = [least(before, other, sheet) for before, other in zip(found, drawn.points_at(spots))]
+        return found
 
 
-def least(found):
-    """What the sheets' answers for one point say of the whole outline; the head of this file says why."""
-    sheet = min(range(len(found)), key=lambda index: found[index].hi_squared)
-    return Nearest(min(one.lo_squared for one in found), found[sheet].hi_squared, found[sheet].edge, sheet)
+def least(before, other, sheet):
+    """What the answer of the sheets before and that of one more say of all of them; the head of this file says why."""
+    lo = min(before.lo_squared, other.lo_squared)
+    if other.hi_squared < before.hi_squared:
+        return Nearest(lo, other.hi_squared, other.edge, sheet)
+    return Nearest(lo, before.hi_squared, before.edge, before.sheet)
 
 
 # ---- the file of a part
@@ -241,18 +249,18 @@ def is_plain(name):
         os.fsencode(name)
     except UnicodeEncodeError:
         return False
-    return name not in ("", ".", "..", "-") and not re.search(r"[/\\\0]", name)
+    return name not in ("", ".", "..", "-") and not re.search("[/\0]", name)
 
 
 def sheets_of(path, listed, read):
     """The paths of a part's sheets with their bytes, which `read` gives. BadPart where one is not as the part was written with it."""
     found = []
     for name, written in listed.sheets:
-        place = os.path.join(os.path.dirname(path), name)
-        data = read(place)
+        where = os.path.join(os.path.dirname(path), name)
+        data = read(where)
         if digest(data) != written:
             raise BadPart(f"its sheet {name} has been changed or replaced since the part was written: {MEND}")
-        found.append((place, data))
+        found.append((where, data))
     try:
         compare(listed, [Job.from_sheet(data) for _, data in found])
     except Refused:
@@ -280,13 +288,13 @@ def naming(path):
     folder, sheet = os.path.split(path)
     found = []
     for name in beside(folder, sheet)[:LOOKED_MOST]:
-        place = os.path.join(folder, name)
+        part = os.path.join(folder, name)
         try:
-            listed = [other for other, _ in read_part(read_file(place)).sheets]
+            listed = [other for other, _ in read_part(read_file(part)).sheets]
         except (OSError, BadPart):
             continue
         if sheet in listed:
-            found.append((place, [os.path.join(folder, other) for other in listed]))
+            found.append((part, [os.path.join(folder, other) for other in listed]))
     return found
 
 

@@ -112,7 +112,7 @@ class Accepted:
 
     def sheets_row(self):
         names = [given.path for given in self.work.sheets]
-        return {"sheets": f"{len(names)}: {', '.join(names)}"} if names != [self.work.path] else {}
+        return {"sheets": f"{len(names)}: {figures.these(names)}"} if names != [self.work.path] else {}
 
     def program(self):
         """What the program says of the sheets, which it reads one at a time."""

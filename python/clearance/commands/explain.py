@@ -35,9 +35,17 @@ def run(asked):
     told = [(path, *reasons.explanation(asked.number, data, asked.store)) for path, data in given.sheets]
     refused = [(path, text) for path, is_refused, text in told if is_refused]
     if not refused:
-        *before, last = [f"{path}: {text}" for path, _, text in told]
-        for message in before:
-            console.say(message)
-        raise console.found(last)
+        raise not_refused(given.name, [(path, text) for path, _, text in told])
     console.put("".join(text + "\n" if len(told) == 1 else f"{path}: {text}\n" for path, text in refused))
     return console.DONE
+
+
+def not_refused(name, told):
+    """Says of sheets that are not refused, or not so, what else; where that is the same of all, at once."""
+    if len({text for _, text in told}) == 1:
+        each = f"each of its {len(told)} sheets is " if len(told) > 1 else ""
+        return console.found(f"{name}: {each}{told[0][1]}")
+    *before, last = [f"{path}: {text}" for path, text in told]
+    for message in before:
+        console.say(message)
+    return console.found(last)

@@ -12,6 +12,7 @@ from ..drawings import dxf, svg
 from ..drawings.curves import Unusable
 from ..drawings.outline import outline_of, placed, reach_for
 from ..drawings.reading import BYTES_MOST, UNITS, Wish
+from ..figures import these
 from ..findings import off_plate
 from ..gaps import gaps
 from ..lengths import millimetres, plain, root_up
@@ -102,7 +103,7 @@ def arguments(parser):
     parser.add_argument(
         "--split",
         action="store_true",
-        help="write FILE-1.sheet, FILE-2.sheet ... of up to 64 edges each, on one plate, and FILE.part, which stands for all of them; \
+        help="write FILE-1.sheet, FILE-2.sheet ... of up to 64 edges each, on one plate, and FILE.part, which stands for the whole part; \
 also where one is enough",
     )
     parser.add_argument("--json", action="store_true", help="write what is said of the sheet as JSON to standard output; needs -o")
@@ -168,7 +169,7 @@ def jobs_of(edges, reach, plate, asked):
     """One job, or as many on one plate as it takes."""
     most = library.EDGES_MOST
     if not asked.split and len(edges) > most:
-        several = "--split -o FILE.sheet writes several sheets for one plate"
+        several = "--split -o FILE.sheet writes several sheets, and FILE.part, which stands for the whole part"
         raise Unusable(f"it has {len(edges)} edges, and a sheet has {most} at most; {several}")
     plate = plate or advice.plate_for(edges, reach)
     groups = [edges[start : start + most] for start in range(0, len(edges), most)]
@@ -253,4 +254,4 @@ def sentences(facts):
     yield f"reach: {facts['reach_hundredths']} hundredths, {facts['reach_asked']} mm and W rounded up"
     yield from (f"warning: {warning}" for warning in facts["warnings"])
     if facts["part"]:
-        yield f"written: {', '.join(files)} and {facts['part']}, which stands for all of them"
+        yield f"written: {these(files)}, and {facts['part']}, which stands for the whole part"

@@ -4,7 +4,7 @@ import argparse
 import os
 import re
 
-from .. import console, inputs, page, picture
+from .. import console, figures, inputs, page, picture
 
 SUMMARY = "a picture of a map: SVG, or an HTML page that tells about each cell"
 DESCRIPTION = f"""\
@@ -93,7 +93,7 @@ def source(asked, work):
     letters = "The letters are the library's" if asked.map is None else "The letters are those of the map file that was given"
     if len(work.sheets) == 1:
         return f"{letters}."
-    names = ", ".join(shown_name(given.path) for given in work.sheets)
+    names = figures.these([shown_name(given.path) for given in work.sheets])
     return f"{letters}, for {len(work.sheets)} sheets as one outline: {names}. Each bound is the least of the sheets' bounds."
 
 
