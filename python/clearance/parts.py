@@ -13,6 +13,7 @@ from dataclasses import dataclass
 
 from . import library
 from .bounds import outline_box
+from .figures import these
 from .job import Job, is_line, place
 from .lengths import millimetres, plain
 from .maps import joined
@@ -37,7 +38,7 @@ class Part:
 
     @staticmethod
     def read(path):
-        """The part of a file that names its sheets. BadPart where the file or a sheet is not as it was written; Refused as Job.from_sheet."""
+        """The part of a file that names its sheets. BadPart where that or a sheet is not as it was written; Refused as Job.from_sheet."""
         path = os.fspath(path)
         listed = read_part(read_file(path))
         files = sheets_of(path, listed, read_file)
@@ -99,6 +100,7 @@ def least(before, other, sheet):
 
 SUFFIX = ".part"
 MARK, FORMAT = "clearance_part", 1
+# `from` makes 4,096 edges at most, 64 sheets of 64.
 SHEETS_MOST = 64
 # 64 names of 255 bytes, each byte written as \udcff, fit.
 BYTES_MOST = 200_000
@@ -143,6 +145,11 @@ def names(output, count):
     if suffix == SUFFIX:
         suffix = ".sheet"
     return [f"{stem}-{number}{suffix}" for number in range(1, count + 1)], stem + SUFFIX
+
+
+def told_written(sheet_names, part_name):
+    """What is said when a part is written."""
+    return f"written: {these(sheet_names)}, and {part_name}, which stands for the whole part"
 
 
 def files(output, jobs, source):

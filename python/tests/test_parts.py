@@ -1,4 +1,4 @@
-"""Parts: what is told of one is what one sheet with all its edges would tell, its file is read strictly, and a sheet alone is not taken for it."""
+"""Parts: they tell what one sheet with all edges would, their files are read strictly, and a sheet alone is not taken for one."""
 
 import json
 import math
@@ -303,7 +303,8 @@ class Advice(Case):
         odd = [replace(job, x=BRACKET.x - 999, n=BRACKET.n + 1, m=BRACKET.m + 1) for job in pieces()]
         part = self.write(jobs=odd, source={"drawing": "bracket.dxf", "w": "0"})
         status, out, said = command("advise", part, "--write", "-o", self.top / "G.sheet")
-        self.assertEqual((status, out, said), (0, "", ""))
+        self.assertEqual((status, out), (0, ""))
+        self.assertIn(f"written: {self.top}/G-1.sheet, ", said)
         made = Part.read(self.top / "G.part")
         whole = Job.from_sheet(command("advise", self.folder.file("whole.sheet", BRACKET.to_sheet()), "--write")[1].encode())
         self.assertEqual(sum((job.edges for job in made.jobs), ()), whole.edges)
@@ -326,6 +327,9 @@ class Advice(Case):
         before = sorted(os.listdir(self.top))
         self.assertEqual(command("advise", part, "--write")[:2], (2, ""))
         self.assertEqual(command("advise", part, "-o", "-")[0], 2)
+        also = [word for _ in range(parts.SHEETS_MOST) for word in ("--also", self.sheets()[0])]
+        self.assertEqual(command("advise", self.sheets()[0], *also, "-o", self.top / "G.sheet")[0], 1)
+        self.assertEqual(sorted(os.listdir(self.top)), before)
         other = self.folder.file("other.sheet", replace(BRACKET, reach=BRACKET.reach + 1).to_sheet())
         status, out, said = command("advise", part, "--also", other)
         self.assertEqual((status, out), (1, ""))
@@ -356,7 +360,7 @@ class Files(Case):
         return said
 
     def test_what_is_written(self):
-        source = {"drawing": "bracket.dxf", "unit": "mm, as the file says", "left_out": {"text": 2}, "w": "0.01", "reach_asked": "3", "x": 1}
+        source = {"drawing": "bracket.dxf", "unit": "mm", "left_out": {"text": 2}, "w": "0.01", "reach_asked": "3", "x": 1}
         told = json.loads(self.write(source=source).read_bytes())
         self.assertEqual(list(told)[:2], [parts.MARK, "version"])
         self.assertEqual({name: told[name] for name in source if name in told}, {name: source[name] for name in source if name != "x"})
@@ -508,7 +512,8 @@ class Module(Case):
 class Drawings(Case):
     def drawing(self, points):
         corners = " ".join(f"{50 + 40 * (i % 2) + i / 10:g},{i:g}" for i in range(points))
-        svg = f'<svg xmlns="http://www.w3.org/2000/svg" width="200mm" height="200mm" viewBox="0 0 200 200"><polyline points="{corners}"/></svg>'
+        size = 'width="200mm" height="200mm" viewBox="0 0 200 200"'
+        svg = f'<svg xmlns="http://www.w3.org/2000/svg" {size}><polyline points="{corners}"/></svg>'
         return self.folder.file("zigzag.svg", svg.encode())
 
     @needs_svgelements

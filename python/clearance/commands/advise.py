@@ -52,7 +52,7 @@ def run(asked):
     if not write:
         tell(asked, given, [job_now(sheet) for sheet in found], jobs)
     elif is_part:
-        console.write_all(parts.files(asked.output, jobs, given.part.source if given.part else {}))
+        write_part(asked.output, given, jobs)
     else:
         console.write_bytes("-" if asked.output is None else asked.output, jobs[0].to_sheet())
     return console.DONE
@@ -76,6 +76,13 @@ def advised(name, found, store):
         return [advice.advised(sheet.edge_values(), reach, plate, store) for sheet in found]
     except advice.Unadvisable as reason:
         raise console.found(f"{name}: there is no advice: {reason}") from reason
+
+
+def write_part(output, given, jobs):
+    if len(jobs) > parts.SHEETS_MOST:
+        raise console.found(f"{given.name}: {len(jobs)} sheets are given, and a part has {parts.SHEETS_MOST} at most")
+    console.write_all(parts.files(output, jobs, given.part.source if given.part else {}))
+    console.say(f"{given.name}: {parts.told_written(*parts.names(output, len(jobs)))}")
 
 
 def tell(asked, given, now, then):

@@ -5,13 +5,12 @@ from collections import Counter
 from .. import console, inputs
 
 SUMMARY = "the cells in which two maps differ"
-DESCRIPTION = f"""\
+DESCRIPTION = """\
 Says how many cells have one letter in the first map and another in the second, for each pair of letters, or "the same".
 
-In place of a map a job sheet may stand, or a part: the library draws its map. What a file is its first bytes tell. Two
-sheets have to be of one plate and cell.
-
-{inputs.PARTS}"""
+In place of a map a job sheet may stand, or a part, as `clearance from --split` writes it: the library draws its map then, of
+a part the joined one. What a file is its first bytes tell. Where both are drawn they have to be of one plate and cell.
+"""
 EXAMPLES = """\
   clearance diff before.map after.map
   clearance map bracket.sheet | clearance diff bracket.map - --cells

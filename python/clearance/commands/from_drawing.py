@@ -12,7 +12,6 @@ from ..drawings import dxf, svg
 from ..drawings.curves import Unusable
 from ..drawings.outline import outline_of, placed, reach_for
 from ..drawings.reading import BYTES_MOST, UNITS, Wish
-from ..figures import these
 from ..findings import off_plate
 from ..gaps import gaps
 from ..lengths import millimetres, plain, root_up
@@ -43,6 +42,10 @@ EXAMPLES = """\
 """
 PLATE = "the plate: its lower left corner, and a side that it has at least, in millimetres (the smallest around the part)"
 AT = "move the part so that the lower left corner of its box is there, in millimetres"
+SPLIT = """\
+write FILE-1.sheet, FILE-2.sheet ... of up to 64 edges each, on one plate, and FILE.part, which stands for the whole part; also \
+where one sheet is enough
+"""
 LEAVE_OUT = "kinds of what is drawn to leave out, as text,hatch"
 KINDS = {**dxf.KINDS, **svg.KINDS}
 WITHIN = Fraction(1, 10_000), Fraction(10)
@@ -103,8 +106,7 @@ def arguments(parser):
     parser.add_argument(
         "--split",
         action="store_true",
-        help="write FILE-1.sheet, FILE-2.sheet ... of up to 64 edges each, on one plate, and FILE.part, which stands for the whole part; \
-also where one is enough",
+        help=SPLIT,
     )
     parser.add_argument("--json", action="store_true", help="write what is said of the sheet as JSON to standard output; needs -o")
 
@@ -254,4 +256,4 @@ def sentences(facts):
     yield f"reach: {facts['reach_hundredths']} hundredths, {facts['reach_asked']} mm and W rounded up"
     yield from (f"warning: {warning}" for warning in facts["warnings"])
     if facts["part"]:
-        yield f"written: {these(files)}, and {facts['part']}, which stands for the whole part"
+        yield parts.told_written(files, facts["part"])
