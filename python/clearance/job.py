@@ -118,16 +118,17 @@ class Drawn:
 
     def points_at(self, spots):
         """The same of points in whole hundredths of 32 bits."""
+        return [Nearest(*numbers) for numbers in zip(*self.replies(spots))]
+
+    def replies(self, spots):
+        """The same as three lists: lo, hi and edge of each point."""
         found = []
         for start in range(0, len(spots), library.SPOTS_MOST):
-            found += self._asked(spots[start : start + library.SPOTS_MOST])
-        return found
-
-    def _asked(self, spots):
-        number, reply = library.points(self._row, [z for spot in spots for z in spot], self._store)
-        check(number)
-        width = library.NEAREST_NUMBERS
-        return [Nearest(*reply[at : at + width]) for at in range(0, len(reply), width)]
+            asked = spots[start : start + library.SPOTS_MOST]
+            number, reply = library.points(self._row, [z for spot in asked for z in spot], self._store)
+            check(number)
+            found += reply
+        return [found[at :: library.NEAREST_NUMBERS] for at in range(library.NEAREST_NUMBERS)]
 
 
 def place(spot):

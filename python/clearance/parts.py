@@ -81,19 +81,16 @@ class DrawnPart:
         return self.points_at([place(spot) for spot in spots])
 
     def points_at(self, spots):
-        """The same of points in whole hundredths of 32 bits."""
-        found = self.each[0].points_at(spots)
+        """The same of points in whole hundredths of 32 bits. The head of this file says why the least are right."""
+        lows, highs, edges = self.each[0].replies(spots)
+        sheets = [0] * len(lows)
         for sheet, drawn in enumerate(self.each[1:], 1):
-            found = [least(before, other, sheet) for before, other in zip(found, drawn.points_at(spots))]
-        return found
-
-
-def least(before, other, sheet):
-    """What the answer of the sheets before and that of one more say of all of them; the head of this file says why."""
-    lo = min(before.lo_squared, other.lo_squared)
-    if other.hi_squared < before.hi_squared:
-        return Nearest(lo, other.hi_squared, other.edge, sheet)
-    return Nearest(lo, before.hi_squared, before.edge, before.sheet)
+            more_lows, more_highs, more_edges = drawn.replies(spots)
+            lows = list(map(min, lows, more_lows))
+            for index, (before, high) in enumerate(zip(highs, more_highs)):
+                if high < before:
+                    highs[index], edges[index], sheets[index] = high, more_edges[index], sheet
+        return [Nearest(*numbers) for numbers in zip(lows, highs, edges, sheets)]
 
 
 # ---- the file of a part
