@@ -10,11 +10,22 @@ if TYPE_CHECKING:  # for those who read types: below, each is imported when it i
     from .library import LibraryMissing
     from .maps import Map, joined
     from .nearest import Nearest
+    from .parts import BadPart, Part
     from .refusals import Refused
 
-__all__ = ["Drawn", "Job", "LibraryMissing", "Map", "Nearest", "Refused", "joined", "__version__"]
+__all__ = ["BadPart", "Drawn", "Job", "LibraryMissing", "Map", "Nearest", "Part", "Refused", "joined", "__version__"]
 
-_FILES = {"Drawn": "job", "Job": "job", "LibraryMissing": "library", "Map": "maps", "Nearest": "nearest", "Refused": "refusals", "joined": "maps"}
+_FILES = {
+    "BadPart": "parts",
+    "Drawn": "job",
+    "Job": "job",
+    "LibraryMissing": "library",
+    "Map": "maps",
+    "Nearest": "nearest",
+    "Part": "parts",
+    "Refused": "refusals",
+    "joined": "maps",
+}
 
 
 def __getattr__(name):

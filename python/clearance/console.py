@@ -89,6 +89,28 @@ def write_bytes(path, data):
     return None
 
 
+def write_all(files):
+    """Writes all files or none: several are written under other names first, and put in their places when all are there."""
+    if len(files) == 1:
+        write_bytes(*files[0])
+        return
+    beside = {name: f"{name}.part{os.getpid()}" for name, _ in files}
+    try:
+        for name, data in files:
+            if os.path.lexists(name) and not os.path.isfile(name):
+                raise FileExistsError(errno.EEXIST, "it is there and no file")
+            with open(beside[name], "wb") as file:
+                file.write(data)
+        for name, other in beside.items():
+            os.replace(other, name)
+    except OSError as error:
+        raise failed(name, error) from error
+    finally:
+        for other in beside.values():
+            if os.path.exists(other):
+                os.remove(other)
+
+
 def put(data):
     """Bytes or text to standard output."""
     if isinstance(data, str):

@@ -142,6 +142,11 @@ def draw(row, store, room=CELLS_MOST):
     return refusal, cells, nodes.value
 
 
+def trees_in(store, nodes):
+    """A copy of a store's trees alone: of what was lent they are often a hundredth, and a part keeps those of many jobs."""
+    return (ctypes.c_int32 * (nodes * NODE_NUMBERS)).from_buffer_copy(store)
+
+
 def point(row, x, y, store):
     """The refusal and lo, hi, edge of one point."""
     nearest = (ctypes.c_int64 * NEAREST_NUMBERS)()

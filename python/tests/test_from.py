@@ -708,7 +708,7 @@ class Verb(Case):
     def test_one_sheet_of_a_split_has_its_number_too(self):
         path = self.file("part.svg", svg_file('<circle r="5"/>'))
         self.assertEqual(ran(path, "--reach", "2.5", "--split", "-o", self.folder / "part.sheet")[0], 0)
-        self.assertEqual(sorted(os.listdir(self.folder)), ["part-1.sheet", "part.svg"])
+        self.assertEqual(sorted(os.listdir(self.folder)), ["part-1.sheet", "part.part", "part.svg"])
 
     @needs_svgelements
     def test_all_files_are_written_or_none(self):

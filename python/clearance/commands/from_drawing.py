@@ -1,13 +1,12 @@
 """The verb `from`: a job sheet from a DXF or an SVG drawing."""
 
 import argparse
-import errno
 import os
 from dataclasses import replace
 from decimal import Decimal, InvalidOperation
 from fractions import Fraction
 
-from .. import advice, console, inputs, library, sheets
+from .. import advice, console, inputs, library, parts, sheets
 from ..bounds import outline_box
 from ..drawings import dxf, svg
 from ..drawings.curves import Unusable
@@ -56,6 +55,10 @@ EXAMPLES = """\
 """
 PLATE = "the plate: its lower left corner, and a side that it has at least, in millimetres (the smallest around the part)"
 AT = "move the part so that the lower left corner of its box is there, in millimetres"
+SPLIT = """\
+write FILE-1.sheet, FILE-2.sheet ... of up to 64 edges each, on one plate, and FILE.part, which stands for the whole part; also \
+where one sheet is enough
+"""
 LEAVE_OUT = "kinds of what is drawn to leave out, as text,hatch"
 KINDS = {**dxf.KINDS, **svg.KINDS}
 WITHIN = Fraction(1, 10_000), Fraction(10)
@@ -121,7 +124,7 @@ def arguments(parser):
     parser.add_argument(
         "--split",
         action="store_true",
-        help="write FILE-1.sheet, FILE-2.sheet ... of up to 64 edges each, on one plate; also where one is enough",
+        help=SPLIT,
     )
     parser.add_argument("--json", action="store_true", help="write what is said of the sheet as JSON to standard output; needs -o")
 
@@ -144,9 +147,11 @@ def run(asked):
         raise console.found(f"{asked.drawing}: {error}") from error
     files = written_names(asked, len(jobs))
     facts = facts_of(drawing, outline, asked.reach, reach, files)
+    facts["drawing"] = os.path.basename(asked.drawing)
+    facts["part"] = parts.names(asked.output, len(jobs))[1] if asked.split else None
     off = off_plate(replace(jobs[0], edges=outline.edges))
     facts["warnings"] = [off[2]] if off else []
-    write_all([(name, job.to_sheet()) for name, job in zip(files, jobs)])
+    console.write_all(parts.files(asked.output, jobs, facts) if asked.split else [(asked.output, jobs[0].to_sheet())])
     for sentence in sentences(facts):
         console.say(f"{asked.drawing}: {sentence}")
     if asked.json:
@@ -188,7 +193,7 @@ def jobs_of(edges, reach, plate, asked):
     """One job, or as many on one plate as it takes."""
     most = library.EDGES_MOST
     if not asked.split and len(edges) > most:
-        several = "--split -o FILE.sheet writes several sheets for one plate"
+        several = "--split -o FILE.sheet writes several sheets, and FILE.part, which stands for the whole part"
         raise Unusable(f"it has {len(edges)} edges, and a sheet has {most} at most; {several}")
     plate = plate or advice.plate_for(edges, reach)
     groups = [edges[start : start + most] for start in range(0, len(edges), most)]
@@ -196,31 +201,7 @@ def jobs_of(edges, reach, plate, asked):
 
 
 def written_names(asked, count):
-    if not asked.split:
-        return [asked.output]
-    stem, suffix = os.path.splitext(asked.output)
-    return [f"{stem}-{number}{suffix}" for number in range(1, count + 1)]
-
-
-def write_all(files):
-    """Writes all files or none: several are written under other names first, and put in their places when all are there."""
-    if len(files) == 1:
-        console.write_bytes(*files[0])
-        return
-    beside = {name: f"{name}.part{os.getpid()}" for name, _ in files}
-    try:
-        for name, data in files:
-            if os.path.lexists(name) and not os.path.isfile(name):
-                raise FileExistsError(errno.EEXIST, "it is there and no file")
-            with open(beside[name], "wb") as file:
-                file.write(data)
-        for name, other in beside.items():
-            os.replace(other, name)
-    except OSError as error:
-        for other in beside.values():
-            if os.path.exists(other):
-                os.remove(other)
-        raise console.failed(name, error) from error
+    return parts.names(asked.output, count)[0] if asked.split else [asked.output]
 
 
 def facts_of(drawing, outline, asked_reach, reach, files):
@@ -305,5 +286,5 @@ def sentences(facts):
     yield f"W is {facts['w_hundredths']} hundredths ({facts['w']} mm): no point {drawn} or of the outline is farther from the other"
     yield f"reach: {facts['reach_hundredths']} hundredths, {facts['reach_asked']} mm and W rounded up"
     yield from (f"warning: {warning}" for warning in facts["warnings"])
-    if len(files) > 1:
-        yield f"written: {', '.join(files)}"
+    if facts["part"]:
+        yield parts.told_written(files, facts["part"])
