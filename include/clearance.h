@@ -23,6 +23,10 @@
  * accepted call writes from the start of `job`, `out`, `store`, `cells` or `reply`
  * on and changes nothing past what it writes.
  *
+ * Stack. A thread with a stack of 64 KB can call every function. That was measured
+ * and is no theorem: on x86-64 Linux clearance_map ran with 36 KB, and each other
+ * function with 24, on 64 edges of the deepest trees and on every example.
+ *
  * Jobs. A job is a row of CLEARANCE_JOB_NUMBERS numbers. A read fills such a row
  * and takes no other. The other functions take a row and its length: numbers that
  * a shorter row lacks are taken as 0, and of a longer row only the first
