@@ -4,7 +4,7 @@
  * From an outline of 1 to 64 edges, cubic Bezier curves and straight lines in
  * any order, the library builds trees of strips, one tree an edge. With them it
  * draws a map that tells for each cell of a plate whether it is clear of the
- * outline, inside its reach or doubtful, and it bounds the distance of a point
+ * outline, inside its reach or doubtful. It also bounds the distance of a point
  * from the outline, of one or of up to 256 in a call.
  *
  * Every function takes any numbers and any lengths, and gives an answer or a
@@ -162,8 +162,8 @@ enum {
 /* The most cells of a map, one byte each: enough for every job. */
 #define CLEARANCE_CELLS_MOST 65536
 /* The numbers of a node in the store: centre x, y, axis x, y, box x, y, and the
- * count of nodes in its subtree, itself included; then least x, y and greatest
- * x, y of the smallest upright box around the leaves of its subtree. */
+ * count of nodes in its subtree, itself included. The last four are least x, y
+ * and greatest x, y of the smallest upright box around its subtree's leaves. */
 #define CLEARANCE_NODE_NUMBERS 11
 /* The most nodes of one edge's tree: ten halvings of every piece. */
 #define CLEARANCE_TREE_NODES_MOST 2047
