@@ -1,6 +1,6 @@
 """Reads job sheets and maps, and knows the place of every byte it read.
 
-The forms are those of RULES, "Sheets"; the ranges are those of "The work and its edges".
+The forms are those of RULES, "Sheets"; the ranges are those of "Jobs".
 Lines, columns and bytes are counted from 1.
 """
 

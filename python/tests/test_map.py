@@ -147,7 +147,7 @@ class Maps(unittest.TestCase):
         self.assertEqual((done.returncode, done.stderr), (3, b""))
 
     def test_help(self):
-        self.assertEqual(command("--version"), (0, b"clearance 1.0.0\n", ""))
+        self.assertEqual(command("--version"), (0, b"clearance 1.1.0\n", ""))
         for verb in cli.VERBS:
             status, out, _ = command(verb, "--help")
             self.assertEqual(status, 0)
