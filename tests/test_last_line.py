@@ -63,10 +63,10 @@ class LastLine(unittest.TestCase):
                 self.fails_at(step, bad=step)
 
     def test_stopped_by_a_signal(self):
+        """TERM alone: a shell that is started with another one ignored cannot heed it."""
         for step in steps()[-1], steps()[steps().index(PROOFS) + 1]:
-            for signal in "INT", "TERM", "HUP":
-                with self.subTest(step, signal=signal):
-                    self.fails_at(step, bad=step, does=f"kill -{signal} $PPID")
+            with self.subTest(step):
+                self.fails_at(step, bad=step, does="kill -TERM $PPID")
 
     def test_proofs_without_their_line(self):
         for said in "", "7 passed, 1 failed", "0 passed, 0 failed", COUNT + "\nrt: and more":
