@@ -1,4 +1,4 @@
-"""The stored cases of the proved programs and their expected output, made by the second implementation."""
+"""The stored cases and their expected output, made by the second implementation."""
 
 import re
 import sys
@@ -7,7 +7,7 @@ from pathlib import Path
 TOP = Path(__file__).resolve().parents[2]
 sys.path.insert(0, str(TOP / "tests"))
 
-from test_clearmap import CLEARMAP, examples, run, stored  # noqa: E402,F401  one reader of stored cases serves all
+from test_clearmap import CLEARMAP, MAPS, SHEETS, examples, run, stored  # noqa: E402,F401  one reader of stored cases serves all
 
 
 def refusal_in(answer):
