@@ -39,7 +39,7 @@ NEVER = {
 }
 USABLE = {*SHAPES, *GROUPS, *KIND_OF, "svg", "symbol", "use"}
 CONDITIONS = ("requiredFeatures", "requiredExtensions", "systemLanguage")
-SMOOTH_PAINT = ("linearGradient", "radialGradient", "solidcolor", "solidColor")
+SMOOTH_PAINT = ("linearGradient", "radialGradient", "meshgradient", "solidcolor", "solidColor")
 
 INHERITED = ("visibility", *MARKERS, *PAINT)
 INITIAL = {"visibility": "visible"}
@@ -279,8 +279,10 @@ class Structure:
         inner = fitted(box, corner, sides, element.attrib) if box else translation(*corner)
         overflow = [styles[name].word() for name in ("overflow", "overflow-x", "overflow-y") if name in styles] or ["hidden"]
         windows = where.windows if set(overflow) == {"visible"} else (*where.windows, (element, Window(corners(where.place, corner, sides))))
-        where = replace(where, place=placed(where.place, inner), size=Size(*(box[2:] if box else sides)), windows=windows)
-        self.push(element.children, where)
+        # Of what per cents are in a symbol without a viewBox programs differ.
+        known = box or element.name == "svg" or sides == (size.width, size.height)
+        inside = Size(*(box[2:] if box else sides)) if known else Size(None, None)
+        self.push(element.children, replace(where, place=placed(where.place, inner), size=inside, windows=windows))
 
 
 def inherit(above, styles):

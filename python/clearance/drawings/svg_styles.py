@@ -38,6 +38,7 @@ SEVERAL = re.compile(r"[\s>+~:]")
 TESTS_MOST = 2_000_000
 LETTERS_MOST = 200_000
 
+OTHER_FILE = re.compile(r"url\(\s*['\"]?[^#'\"\s]")
 PIECE = re.compile(r"(/\*.*?\*/)|([(\[])|([)\]])|(;)|(\"[^\"]*\"|'[^']*'|[^;()\[\]\"'/]+|/)", re.DOTALL)
 
 
@@ -57,6 +58,12 @@ def optional(name):
         return import_module(name)
     except ImportError:
         return None
+
+
+def paints(element):
+    """Whether an element is a pattern, or refers to another file, where one may be."""
+    texts = (*element.attrib.values(), *element.texts)
+    return element.name in ("pattern", "hatch") or any("url(" in text and OTHER_FILE.search(text) for text in texts)
 
 
 def bounded(text):
@@ -83,7 +90,7 @@ class Styles:
             self.css = self.select = None
         self.document, self.findings = document, findings
         every = list(document.root.subtree())
-        self.relevant = RELEVANT | set(PAINT) if any(element.name in ("pattern", "hatch", "mesh") for element in every) else RELEVANT
+        self.relevant = RELEVANT | set(PAINT) if any(map(paints, every)) else RELEVANT
         self.rules, self.texts, self.known, self.trees = 0, [], {}, {}
         self.matcher = self.select.Matcher() if self.select else None
         sheets = [element for element in every if element.is_style() and self.is_css(element)]

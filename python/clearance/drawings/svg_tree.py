@@ -103,7 +103,7 @@ class Document:
             raise Unusable(f"it has more than {ELEMENTS_MOST:,} elements", *self.here())
         above = self.open[-1] if self.open else None
         attrib = {braced(key): value for key, value in attributes.items()}
-        element = Element(braced(name), local if space == self.space else "", attrib, above, *self.here())
+        element = Element(braced(name), local if space in (self.space, NAMESPACE) else "", attrib, above, *self.here())
         if above is None:
             self.root = element
         else:
