@@ -147,9 +147,12 @@ def names(output, count):
     return [f"{stem}-{number}{suffix}" for number in range(1, count + 1)], stem + SUFFIX
 
 
-def told_written(sheet_names, part_name):
-    """What is said when a part is written."""
-    return f"written: {these(sheet_names)}, and {part_name}, which stands for the whole part"
+def told_written(output, count):
+    """What is said when a part of so many sheets is written; a part of more sheets that was there before leaves some behind."""
+    sheet_names, part_name = names(output, count)
+    following = names(output, count + 1)[0][-1]
+    behind = f"; {following} is there from before and is none of its sheets" if os.path.lexists(following) else ""
+    return f"written: {these(sheet_names)}, and {part_name}, which stands for the whole part{behind}"
 
 
 def files(output, jobs, source):

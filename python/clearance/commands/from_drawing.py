@@ -152,7 +152,8 @@ def run(asked):
     off = off_plate(replace(jobs[0], edges=outline.edges))
     facts["warnings"] = [off[2]] if off else []
     console.write_all(parts.files(asked.output, jobs, facts) if asked.split else [(asked.output, jobs[0].to_sheet())])
-    for sentence in sentences(facts):
+    written = [parts.told_written(asked.output, len(jobs))] if asked.split else []
+    for sentence in (*sentences(facts), *written):
         console.say(f"{asked.drawing}: {sentence}")
     if asked.json:
         console.put_json(facts)
@@ -286,5 +287,3 @@ def sentences(facts):
     yield f"W is {facts['w_hundredths']} hundredths ({facts['w']} mm): no point {drawn} or of the outline is farther from the other"
     yield f"reach: {facts['reach_hundredths']} hundredths, {facts['reach_asked']} mm and W rounded up"
     yield from (f"warning: {warning}" for warning in facts["warnings"])
-    if facts["part"]:
-        yield parts.told_written(files, facts["part"])
