@@ -178,10 +178,13 @@ class Reader:
     def undrawn_of(self, insert, below, places):
         """What an insert draws that makes no edge: its attributes, and such entities of its block. ATTDEFs are drawn where they are constant."""
         for entity in [*insert.attribs, *insert.block()]:
+            if self.is_read(entity):
+                continue
+            self.room_for(places)
             kind, flags = entity.dxftype(), attribute(entity, "flags", 0)
             if kind == "ATTRIB" and flags & INVISIBLE or kind == "ATTDEF" and flags & (INVISIBLE | CONSTANT) != CONSTANT:
                 continue
-            if kind not in self.readers and kind != "INSERT" and self.is_taken(entity, below):
+            if self.is_taken(entity, below):
                 self.undrawn(kind, entity, places)
 
     def external(self, insert, above):
