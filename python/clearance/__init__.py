@@ -14,7 +14,10 @@ if TYPE_CHECKING:  # for those who read types: below, each is imported when it i
 
 __all__ = ["Drawn", "Job", "LibraryMissing", "Map", "Nearest", "Refused", "joined", "__version__"]
 
-_FILES = {"Drawn": "job", "Job": "job", "LibraryMissing": "library", "Map": "maps", "Nearest": "nearest", "Refused": "refusals", "joined": "maps"}
+_FILES = {
+    **{"Drawn": "job", "Job": "job", "LibraryMissing": "library", "Map": "maps"},
+    **{"Nearest": "nearest", "Refused": "refusals", "joined": "maps"},
+}
 
 
 def __getattr__(name):
