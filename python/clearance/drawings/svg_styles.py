@@ -152,7 +152,7 @@ class Styles:
             self.finding(element, "an @import in a <style> is not read: put the styles of the other file into it")
         elif media and rule.content is not None:
             self.gather(element, self.css.parse_rule_list(rule.content, skip_comments=True, skip_whitespace=True))
-        elif media is None and word not in HARMLESS_RULES and (word == "namespace" or self.speaks(rule.serialize())):
+        elif media is None and word not in HARMLESS_RULES and (word == "namespace" or self.speaks(self.css.serialize(rule.content or ()))):
             self.finding(element, f"an @{word} in a <style> is not read: write what it says of the elements as attributes")
 
     def rule(self, element, rule):
