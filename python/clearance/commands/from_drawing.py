@@ -31,9 +31,10 @@ rounded. Lines that go on exactly straight are joined; edges without length are 
 say C, and in reach where one of them says I.
 
 DXF, read by the package ezdxf: the model space, LINE, LWPOLYLINE, POLYLINE, ARC, CIRCLE, ELLIPSE, SPLINE and INSERT, all
-in the plane z = 0, on all layers, hidden ones too. SVG, read by the package svgelements: all shapes and paths, by their
-centre lines, y upward from the lower left corner of the viewBox. Text is left out: convert it to paths. Files have
-{BYTES_MOST:,} bytes at most.
+in the plane z = 0, on all layers, hidden ones too. SVG: all shapes and paths that are displayed, by their
+centre lines, clones and inner viewports in their places, y upward from the lower left corner of the viewBox; the package
+svgelements reads path data, tinycss2 and cssselect2 read stylesheets. What is drawn and makes no edge, as text, is a finding,
+but for kinds that are to be left out. Files have {BYTES_MOST:,} bytes at most.
 """
 EXAMPLES = """\
   clearance from examples/drawings/bracket.dxf --reach 2.5 -o bracket.sheet
