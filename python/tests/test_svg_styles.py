@@ -125,7 +125,8 @@ class Displayed(Shown):
 
     def test_stylesheets_without_the_packages(self):
         with mock.patch.object(svg_styles, "optional", return_value=None):
-            for css in ("line{display:none}", "g{visibility : hidden}", "g{transform:none}", "circle{r:5px}", "@import 'a.css';", r"g{displa\79:none}"):
+            spoken = "line{display:none}", "g{visibility : hidden}", "g{transform:none}", "circle{r:5px}"
+            for css in (*spoken, "g{display/**/:none}", "@import 'a.css';", r"g{displa\79:none}"):
                 self.finding("needs the Python packages tinycss2 and cssselect2", f"<style>{css}</style>")
             self.assertEqual(len(drawing(LINE, "<style>line{fill:none;stroke:red}</style>").curves), 1)
             self.finding("needs the Python packages tinycss2 and cssselect2", r'<line x2="5" style="displa\79:none"/>')
@@ -200,6 +201,8 @@ class Cascade(Shown):
         before = time.process_time()
         self.finding("too many for its elements", f"<style>{'g ' * 9}rect{{display:none}}</style>{nested * 50}", line=0)
         self.finding("more than 200,000 letters", f"<style>{'.a{display:inline}' * 20_000}</style>")
+        for long in ("a" * 200_000, "a/*" * 60_000, "a " * 90_000):
+            self.assertEqual(len(drawing(LINE, f'<g style="{long}"/><style>{long}</style>').curves), 1)
         self.assertLess(time.process_time() - before, 5)
 
     def test_styles_of_other_files(self):

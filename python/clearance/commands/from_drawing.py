@@ -43,9 +43,12 @@ Then, and where a layout or layers are chosen, W is said of what was taken.
 DXF, read by the package ezdxf: the model space, or the layout that --layout names; LINE, LWPOLYLINE, POLYLINE, ARC, CIRCLE,
 ELLIPSE, SPLINE and INSERT, all in the plane z = 0, on all layers, hidden ones too, or on those that --layer names; of polylines
 with a width the centre lines. An entity on layer 0 of a block is on its insert's layer. A POINT has no length: it is left out,
-and counted. What ezdxf had to mend is a finding. SVG, read by the package svgelements: all shapes and paths, by their
-centre lines, y upward from the lower left corner of the viewBox. Text is left out: convert it to paths. Files have
-{BYTES_MOST:,} bytes at most.
+and counted. What ezdxf had to mend is a finding.
+
+SVG: all shapes and paths that are displayed, by their centre lines, clones and inner viewports in their places, y upward from
+the lower left corner of the viewBox. The package svgelements reads path data, tinycss2 and cssselect2 read stylesheets.
+
+Files have {BYTES_MOST:,} bytes at most.
 
 Kinds that --leave-out takes of a DXF drawing:
 {kinds_text(dxf.KINDS)}.

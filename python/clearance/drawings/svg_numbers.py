@@ -10,6 +10,7 @@ SPACE = re.compile(r"[ \t\r\n\f]*")
 BETWEEN = re.compile(r"[ \t\r\n\f]*(?:,[ \t\r\n\f]*(?=[-+.0-9]))?")
 # No number of a drawing is as large as this: it would be out of every sheet, and doubles would lose its places.
 NUMBER_MOST = 1e15
+DIGITS_MOST = 300
 
 
 class Fault(Exception):
@@ -18,6 +19,8 @@ class Fault(Exception):
 
 def in_range(text):
     """The text of a number that is not too large; a fraction of 1e999999999 would take all memory."""
+    if len(text) > DIGITS_MOST:
+        raise Fault(f"a number has more than {DIGITS_MOST} digits")
     if not abs(float(text)) < NUMBER_MOST:
         raise Fault(f"the number {text[:40]} is too large")
     return text

@@ -108,6 +108,8 @@ class Document:
             self.root = element
         else:
             above.children.append(element)
+        if element.tag == f"{{{XHTML}}}link":
+            self.outside.append(Unusable("a <link> to another file is not read: put its styles into a <style>", *element.place))
         self.open.append(element)
         self.deepest = max(self.deepest, len(self.open))
         self.named(element)
