@@ -9,7 +9,7 @@ from collections import defaultdict
 IDENTITY = (1.0, 0.0, 0.0, 1.0, 0.0, 0.0)
 # Curves are followed this close, as a part of the drawing's size; and points are taken so many to the size.
 FLAT, POINTS = 2e-5, 300
-POINTS_MOST = 20_000
+POINTS_MOST = 10_000
 
 
 def after(outer, inner):
@@ -108,27 +108,24 @@ class Near:
             self.lay(segment)
 
     def lay(self, segment):
-        """In all cells of the boxes of its parts, each no longer than a cell's side."""
-        a, b = segment
-        parts = max(1, math.ceil(math.dist(a, b) / self.side))
-        corners = [(a[0] + (b[0] - a[0]) * part / parts, a[1] + (b[1] - a[1]) * part / parts) for part in range(parts + 1)]
-        cells = [self.cell(point) for point in corners]
-        for (i, j), (k, m) in zip(cells, cells[1:]):
-            for column in range(min(i, k), max(i, k) + 1):
-                for row in range(min(j, m), max(j, m) + 1):
+        """In all cells that a point near it may be in: those of the boxes around its parts, each no longer than a cell's side."""
+        (x, y), (right, high) = segment
+        parts = max(1, math.ceil(max(abs(right - x), abs(high - y)) / self.side))
+        dx, dy = (right - x) / parts, (high - y) / parts
+        for part in range(parts):
+            xs, ys = (x + part * dx, x + (part + 1) * dx), (y + part * dy, y + (part + 1) * dy)
+            columns = range(self.cell(min(xs) - self.near), self.cell(max(xs) + self.near) + 1)
+            for row in range(self.cell(min(ys) - self.near), self.cell(max(ys) + self.near) + 1):
+                for column in columns:
                     self.cells[column, row].add(segment)
 
-    def cell(self, point):
-        return math.floor(point[0] / self.side), math.floor(point[1] / self.side)
+    def cell(self, number):
+        return math.floor(number / self.side)
 
     def holds(self, point):
-        column, row = self.cell(point)
-        for i in (column, column - 1, column + 1):
-            for j in (row, row - 1, row + 1):
-                for segment in self.cells.get((i, j), ()):
-                    if from_segment(point, *segment) <= self.near:
-                        return True
-        return False
+        """Whether a segment is near a point."""
+        cell = self.cells.get((math.floor(point[0] / self.side), math.floor(point[1] / self.side)), ())
+        return any(from_segment(point, *segment) <= self.near for segment in cell)
 
     def distance(self, point):
         return min((from_segment(point, *segment) for segment in self.segments), default=math.inf)
