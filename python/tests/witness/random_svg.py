@@ -261,6 +261,8 @@ class Maker:
         align = self.rng.choice(["", "none", *ALIGNS]) if self.rng.random() < 0.7 else ""
         how = self.rng.choice(("", " meet", " slice")) if align else ""
         text = f' viewBox="{" ".join(map(told, box))}"' + (f' preserveAspectRatio="{align}{how}"' if align else "")
+        # What is cut off is known here as if it were not.
+        text += self.rng.choice(("", ' overflow="visible"', ' overflow="visible"', ' style="overflow:visible"'))
         pieces = [self.element(min(box[2:]), box[2:], 3) for _ in range(self.rng.randint(1, 2))]
         lines = [line for piece in pieces for line in piece.lines]
         return text, View("".join(piece.text for piece in pieces), lines, box, align or "xMidYMid", how.strip())

@@ -19,6 +19,6 @@ def edges_of(sheets):
 
 
 def outline_lines(edges):
-    """Edges as polylines. What has no length is left out: nothing is drawn of it."""
+    """Edges as polylines; an edge may be a point."""
     flat = FLAT * size_of(edges) or FLAT
-    return [bezier_line(edge, flat) for edge in edges if len(set(edge)) > 1]
+    return [bezier_line(edge, flat) for edge in edges]

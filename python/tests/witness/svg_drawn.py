@@ -32,6 +32,7 @@ WIDE = 100_000
 LENGTHS = {"": 1, "px": 1, "mm": 96 / 25.4, "cm": 960 / 25.4, "in": 96, "pt": 96 / 72, "pc": 16, "q": 24 / 25.4}
 LENGTH = re.compile(r"\s*([-+]?(?:\d+\.?\d*|\.\d+)(?:[eE][-+]?\d+)?)\s*(px|mm|cm|in|pt|pc|q|)\s*", re.IGNORECASE)
 PATH = re.compile(r'<path [^>]*?d="([^"]*)"(?: transform="matrix\(([^)]*)\)")?')
+CONDITIONED = "switch, [systemLanguage], [requiredFeatures], [requiredExtensions]"
 CLIP = re.compile(r"<clipPath\b.*?</clipPath>", re.DOTALL)
 OTHERS = re.compile(r"<(?:use|image|mask|pattern|symbol)\b")
 
@@ -92,8 +93,9 @@ def pixels(text):
     return float(match[1]) * LENGTHS[match[2].lower()] if match and float(match[1]) > 0 else None
 
 
-def drawn(data, box, unit=None):
-    """The strokes of a drawing's bytes, around a box in millimetres; `unit` is the millimetres of a unit of the viewBox."""
+def drawn(data, box, unit=None, left_out=()):
+    """The strokes of a drawing's bytes, around a box in millimetres; `unit` is the millimetres of a unit of the viewBox, and
+    `left_out` has kinds as `from` leaves them out."""
     try:
         root = Tree.fromstring(data)
     except (Tree.ParseError, ValueError, LookupError) as error:
@@ -102,7 +104,7 @@ def drawn(data, box, unit=None):
         raise CannotTell("the root is no <svg> in SVG's namespace")
     page = Page(root, unit)
     outer, first, scale = wrapped(root, page, box, unit is not None)
-    text = CLIP.sub("", strokes(outer, WIDE / scale / page.user))
+    text = CLIP.sub("", strokes(outer, WIDE / scale / page.user, "switch" in left_out))
     if OTHERS.search(text):
         raise CannotTell(f"{PROGRAM} draws more than strokes")
     lines, flat = [], FLAT * scale * max(box[2] - box[0], box[3] - box[1]) / page.millimetres
@@ -111,10 +113,11 @@ def drawn(data, box, unit=None):
     return [[page.point((first[0] + x / scale, first[1] + y / scale)) for x, y in line] for line in lines]
 
 
-def strokes(outer, wide):
-    """The drawing as rsvg-convert writes it, with strokes of a width in units of the viewBox."""
+def strokes(outer, wide, unswitched):
+    """The drawing as rsvg-convert writes it, with strokes of a width in units of the viewBox; without what is on conditions."""
     with tempfile.NamedTemporaryFile("w", suffix=".css") as style:
         style.write(f"{STYLE.read_text()}* {{ stroke-width: {wide}px !important; }}\n")
+        style.write(f"{CONDITIONED} {{ display: none !important; }}\n" if unswitched else "")
         style.flush()
         words = [PROGRAM, "--format=svg", f"--stylesheet={style.name}"]
         done = subprocess.run(words, input=outer, capture_output=True, check=False, timeout=SECONDS_MOST)

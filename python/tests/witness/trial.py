@@ -30,12 +30,13 @@ class TooSlow(BaseException):
 @dataclass
 class Result:
     """What came of a drawing: agreeing, refused, differing, crashed, slow or untold, and words; how far it differs, in
-    millimetres, and seconds of the command."""
+    millimetres, seconds of the command, and options that it was given because it was refused without."""
 
     kind: str
     words: str = ""
     distance: float = 0.0
     seconds: float = 0.0
+    given: tuple = ()
 
 
 @contextmanager
@@ -117,7 +118,8 @@ def witness(path, outline, words):
     data = Path(path).read_bytes()
     unit = UNITS[words[words.index("--units") + 1]] if "--units" in words else None
     if data.lstrip(b"\xef\xbb\xbf\xff\xfe \t\r\n\x00").startswith(b"<"):
-        return svg_drawn.drawn(data, box_of(outline) or (0.0, 0.0, 1.0, 1.0), unit), 0.0, svg_drawn.SLACK
+        left_out = words[words.index("--leave-out") + 1].split(",") if "--leave-out" in words else ()
+        return svg_drawn.drawn(data, box_of(outline) or (0.0, 0.0, 1.0, 1.0), unit, left_out), 0.0, svg_drawn.SLACK
     lines, slack = dxf_drawn.drawn(path, unit if unit is not None else dxf_drawn.unit_of(data))
     return lines, slack, dxf_drawn.SLACK
 
@@ -126,7 +128,9 @@ def differing(outline, others, off, part):
     """Nothing, or words and a distance: points of one set that are farther from the other than W, and the other's own doubt, allow."""
     size = max(size_of(outline), size_of(others))
     near = off + (part + 2 * FLAT) * size + 1e-6
-    for words, lines, there in (("the outline has", outline, others), ("the outline lacks", others, outline)):
+    # Nothing is drawn of an edge that is a point; but what is drawn may round to one.
+    long = [line for line in outline if len(set(line)) > 1]
+    for words, lines, there in (("the outline has", long, others), ("the outline lacks", others, outline)):
         found = farthest(lines, there, size, near) if lines else None
         if found:
             distance, (x, y) = found
@@ -146,7 +150,7 @@ def shifted(outline, others, off, part):
 
 
 NUMBERS = re.compile(r"\(?[-+]?\d[\d,.]*(?:e[-+]?\d+)?\)?", re.IGNORECASE)
-NAMES = re.compile(r"'[^']*'|#[0-9A-Fa-f]+\b|\([A-Z]+\(#?[0-9A-Fa-f]*\)\)")
+NAMES = re.compile(r"'[^']*'|#[0-9A-Fa-f]+\b|\([A-Z]+\(#?[0-9A-Fa-f]*\)\)|(?<=<)\w+ id=\"[^\"]*\"(?=>)")
 
 
 def kind_of(words):
