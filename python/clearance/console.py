@@ -4,9 +4,8 @@ Status: 0 done, 1 refused or a finding, 2 bad usage, 3 reading or writing failed
 """
 
 import errno
-import json
 import os
-import shutil
+import stat
 import sys
 import time
 
@@ -81,13 +80,35 @@ def write_bytes(path, data):
             file.write(data)
         if beside:
             if os.path.exists(target):
-                shutil.copymode(target, beside)
+                os.chmod(beside, stat.S_IMODE(os.stat(target).st_mode))
             os.replace(beside, target)
     except OSError as error:
         if beside and os.path.exists(beside):
             os.remove(beside)
         raise failed(path, error) from error
     return None
+
+
+def write_all(files):
+    """Writes all files or none: several are written under other names first, and put in their places when all are there."""
+    if len(files) == 1:
+        write_bytes(*files[0])
+        return
+    beside = {name: f"{name}.part{os.getpid()}" for name, _ in files}
+    try:
+        for name, data in files:
+            if os.path.lexists(name) and not os.path.isfile(name):
+                raise FileExistsError(errno.EEXIST, "it is there and no file")
+            with open(beside[name], "wb") as file:
+                file.write(data)
+        for name, other in beside.items():
+            os.replace(other, name)
+    except OSError as error:
+        raise failed(name, error) from error
+    finally:
+        for other in beside.values():
+            if os.path.exists(other):
+                os.remove(other)
 
 
 def put(data):
@@ -112,6 +133,8 @@ def put(data):
 
 
 def put_json(value):
+    import json  # when it is used: the command starts quicker without
+
     put(json.dumps(value, indent=2) + "\n")
 
 

@@ -7,6 +7,9 @@ from .job import is_line
 from .lengths import millimetres, plain
 
 
+NAMES_MOST = 6
+
+
 def twice_band(grain, m):
     """Twice the band E = 3 grains + 1.5 cell sides, which is whole."""
     return 6 * grain + 3 * (1 << m)
@@ -31,6 +34,17 @@ def many(count, thing):
     return f"{count:,} {thing}" + ("" if count == 1 else "s")
 
 
+def these(names):
+    """Names, as text: all of a few, or the first and the last."""
+    return ", ".join(names) if len(names) <= NAMES_MOST else f"{names[0]} ... {names[-1]}"
+
+
+def grains(found):
+    """The grain of one sheet or of several, as text."""
+    least, most = min(found), max(found)
+    return f"{least} ({length(least)} mm)" if least == most else f"{least} to {most} ({length(least)} to {length(most)} mm)"
+
+
 def sizes(job):
     """What a job's sheet states, for a report: names and texts."""
     left, low, right, high = outline_box(job.edges)
@@ -40,7 +54,7 @@ def sizes(job):
         "plate": f"{length(1 << job.n)} mm a side, lower left corner at {spot(job.x, job.y)} mm",
         "cell": f"{length(1 << job.m)} mm a side, {side} by {side} cells",
         "reach": f"{length(job.reach)} mm",
-        "grain": f"{job.grain} ({length(job.grain)} mm)",
+        "grain": grains([job.grain]),
         "edges": f"{len(job.edges)}: {lines} straight, {len(job.edges) - lines} cubic",
         "outline": f"{length(right - left)} by {length(high - low)} mm, from {spot(left, low)} to {spot(right, high)} mm",
     }

@@ -1,4 +1,4 @@
-"""What is likely wrong with a sheet that is accepted: check's warnings. None of them changes a verdict."""
+"""What is likely wrong with an outline whose sheets are accepted: check's warnings. None of them changes a verdict."""
 
 from dataclasses import dataclass
 
@@ -14,21 +14,18 @@ FINE_SQUARED = 16**2
 
 @dataclass(frozen=True)
 class Finding:
-    """A warning: its kind in one word, the sheet's line that it is about (0 for none), and its text."""
+    """A warning: its kind in one word, the sheet and its line that it is about (0 for none), and its text."""
 
     kind: str
+    file: str
     line: int
     text: str
 
 
-def findings(given):
-    """The warnings of an Input, in the order of the sheet's concerns: plate, reach, size, gaps."""
-    found = (plate_finding(given), reach_finding(given), size_finding(given), gap_finding(given))
+def findings(work):
+    """The warnings of one outline, in the order of a sheet's concerns: plate, reach, size, gaps."""
+    found = (plate_finding(work), reach_finding(work), size_finding(work), gap_finding(work))
     return [finding for finding in found if finding]
-
-
-def line_of(given, index):
-    return given.sheet.edges[index][0].line
 
 
 def beyond(box, job, margin):
@@ -42,13 +39,13 @@ def beyond(box, job, margin):
     return left - margin < job.x or low - margin < job.y or right + margin > job.x + side or high + margin > job.y + side
 
 
-def plate_finding(given):
+def plate_finding(work):
     """The outline goes off the plate, or comes closer to its border than the reach."""
-    found = off_plate(given.job)
+    found = off_plate(work.job)
     if found is None:
         return None
     kind, index, text = found
-    return Finding(kind, line_of(given, index), text)
+    return Finding(kind, *work.place(index), text)
 
 
 def off_plate(job):
@@ -66,31 +63,32 @@ def off_plate(job):
     return None
 
 
-def reach_finding(given):
-    job = given.job
+def reach_finding(work):
+    job = work.job
     if 2 * job.reach >= twice_band(job.grain, job.m):
         return None
     told = plain(band(job.grain, job.m))
     text = f"the reach, {length(job.reach)} mm, is below the band E, {told} mm; there may be few cells in reach (I), or none"
-    return Finding("reach", given.sheet.reach.line, text)
+    given = next(one for one in work.sheets if one.job.grain == job.grain)
+    return Finding("reach", given.path, given.sheet.reach.line, text)
 
 
-def size_finding(given):
-    left, low, right, high = outline_box(given.job.edges)
+def size_finding(work):
+    left, low, right, high = outline_box(work.job.edges)
     width, height = right - left, high - low
     if max(width, height) >= SMALL:
         return None
     text = f"the outline is only {length(width)} by {length(height)} mm; were millimetres written instead of hundredths?"
-    return Finding("size", line_of(given, 0), text)
+    return Finding("size", *work.place(0), text)
 
 
-def gap_finding(given):
-    """Ends that no other end meets exactly."""
-    free = gaps(given.job.edges)
+def gap_finding(work):
+    """Ends that no other end meets exactly, also none of another sheet."""
+    free = gaps(work.job.edges)
     if not free:
         return None
     widest = free[0]
     ends_told = f"{len(free)} ends of edges meet" if len(free) > 1 else "1 end of an edge meets"
     distance = plain(root_up(widest.squared * FINE_SQUARED))
     text = f"the outline has gaps: {ends_told} no other end; the widest gap, at this edge, is {distance} mm to the nearest other end"
-    return Finding("gap", line_of(given, widest.edge), text)
+    return Finding("gap", *work.place(widest.edge), text)

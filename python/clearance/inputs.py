@@ -1,9 +1,11 @@
-"""Files that the verbs are given: job sheets and maps. What cannot be used ends the verb with a message that names its place."""
+"""Files that the verbs are given: job sheets, parts and maps. What cannot be used ends the verb with a message that names its place."""
 
 import argparse
-from dataclasses import dataclass
+import os
+from dataclasses import dataclass, replace
+from typing import Optional
 
-from . import console, library, reasons, sheets
+from . import console, library, parts, reasons, sheets
 from .job import Job
 from .lengths import hundredths
 from .maps import CLEAR, DOUBTFUL, INSIDE
@@ -15,6 +17,25 @@ MAP_LIMIT = 67_339
 RISING = CLEAR + DOUBTFUL + INSIDE
 # A sheet has 8,192 bytes at most; so much of a longer text is read to tell how many edges it has.
 SHEET_GLANCE = 4_000_000
+# What every verb that takes a sheet says of parts.
+PARTS = """\
+SHEET may be a part, as `clearance from --split` writes it: a file that begins with { and names the sheets of one outline,
+which stand beside it. All of them are taken then, as one.
+"""
+ALSO = "another sheet or part of the same plate and cell, taken with the first as one outline; may be repeated"
+
+
+def add_also(parser):
+    parser.add_argument("--also", metavar="SHEET", action="append", default=[], help=ALSO)
+
+
+@dataclass(frozen=True)
+class Files:
+    """The sheets of one outline as paths and bytes, the name they go by, and what the part says that was given, if one was."""
+
+    name: str
+    sheets: list
+    part: Optional[parts.Listed]
 
 
 @dataclass(frozen=True)
@@ -27,12 +48,42 @@ class Input:
     job: Job
 
 
+@dataclass(frozen=True)
+class Work:
+    """One outline: its sheets, which are of one plate and cell, and the name that they go by."""
+
+    path: str
+    sheets: tuple
+
+    @property
+    def job(self):
+        """All edges with the first sheet's plate, cell and reach, and the coarsest grain, whose band E is the largest."""
+        jobs = [given.job for given in self.sheets]
+        return replace(jobs[0], edges=sum((job.edges for job in jobs), ()), grain=max(job.grain for job in jobs))
+
+    def place(self, index):
+        """The file and the line of an edge of the whole outline."""
+        for given in self.sheets:
+            if index < len(given.sheet.edges):
+                return given.path, given.sheet.edges[index][0].line
+            index -= len(given.sheet.edges)
+        raise IndexError(index)
+
+
 class RefusedSheet(console.Ended):
     """A sheet that the library refused; `number` is the refusal."""
 
-    def __init__(self, number, message):
-        super().__init__(console.FOUND, message)
+    def __init__(self, path, place, number, cause):
+        super().__init__(console.FOUND, refusal_text(path, place, number, cause))
+        self.path = path
+        self.place = place
         self.number = number
+        self.cause = cause
+
+    def data(self):
+        """The same for JSON."""
+        line, column = (place or None for place in self.place)
+        return {"sheet": self.path, "number": self.number, "word": WORDS[self.number], "line": line, "column": column, "cause": self.cause}
 
 
 def sheet_bytes(path):
@@ -40,9 +91,59 @@ def sheet_bytes(path):
     return console.read_bytes(path, SHEET_GLANCE)
 
 
-def load_sheet(path):
+def files(path, also=()):
+    """The sheets that the arguments of a verb stand for, as one outline. Says where they are not all of a part."""
+    found = [files_of(argument, sheet_bytes(argument)) for argument in (path, *also)]
+    together = Files(path, [file for one in found for file in one.sheets], None if also else found[0].part)
+    say_beside(together)
+    return together
+
+
+def files_of(path, data):
+    """The sheets that one argument with these bytes stands for: itself, or those that a part names."""
+    if not parts.looks_like(data):
+        return Files(path, [(path, data)], None)
+    if path == "-":
+        raise console.misused("a part is given by its file's name, since its sheets stand beside it")
+
+    def read(sheet):
+        try:
+            return sheet_bytes(sheet)
+        except console.Ended as ended:
+            raise console.Ended(ended.status, f"{ended}; {path} names it as a sheet: {parts.MEND}") from ended
+
+    try:
+        listed = parts.read_part(data)
+        return Files(path, parts.sheets_of(path, listed, read), listed)
+    except parts.BadPart as error:
+        raise console.found(f"{console.at(path, *error.place)}: {error}") from error
+
+
+def say_beside(given):
+    """Says of sheets that are taken as one which part has others too, and what to give instead."""
+    taken = {os.path.abspath(path) for path, _ in given.sheets}
+    told = set()
+    for path, _ in given.sheets:
+        for part, names in parts.naming(path) if path != "-" else ():
+            if part not in told and not taken.issuperset(map(os.path.abspath, names)):
+                console.say(f"{path} is one of {len(names)} sheets of {part}: give {part} for the whole part")
+                told.add(part)
+
+
+def load(path, also=()):
+    """One outline of sheets that the library reads."""
+    return work_of(files(path, also))
+
+
+def work_of(given):
+    found = tuple(read_sheet(*file) for file in given.sheets)
+    for other in found[1:]:
+        same_plate(found[0], other)
+    return Work(given.name, found)
+
+
+def read_sheet(path, data):
     """A sheet that the library reads."""
-    data = sheet_bytes(path)
     try:
         job = Job.from_sheet(data)
     except Refused as refused:
@@ -53,7 +154,7 @@ def load_sheet(path):
 def refusal(path, data, number, store=library.STORE_MOST):
     """How a verb ends whose sheet the library refused with this number, with so many numbers of store lent: else all a job can need."""
     where, cause = reasons.first_place(data, number, store)
-    return RefusedSheet(number, refusal_text(path, where, number, cause))
+    return RefusedSheet(path, where, number, cause)
 
 
 def refusal_text(path, where, number, cause):
@@ -80,8 +181,20 @@ def add_store(parser, default, help_text):
     parser.add_argument("--store", metavar="NUMBERS", type=store_numbers, default=default, help=f"{help_text} ({default})")
 
 
-def drawn_of(given, store=library.STORE_MOST):
-    """A sheet's map and trees by the library, with so many numbers of store lent."""
+def drawn_of(work, store=library.STORE_MOST):
+    """An outline's joined map, and the trees of its sheets, by the library, with so many numbers of store lent for each."""
+    progress = console.Progress(len(work.sheets))
+    drawn = []
+    try:
+        for index, given in enumerate(work.sheets):
+            progress.step(index, given.path)
+            drawn.append(drawn_sheet(given, store))
+    finally:
+        progress.end()
+    return parts.DrawnPart(drawn)
+
+
+def drawn_sheet(given, store):
     try:
         return given.job.drawn(store)
     except Refused as refused:
@@ -105,35 +218,57 @@ def one_standard_input(*paths):
 
 def load_map(path):
     """The rows of a map, the lowest first."""
+    return map_rows(path, console.read_bytes(path, MAP_LIMIT))
+
+
+def is_outline(data):
+    """Whether a file begins as a part or a sheet does, and no map."""
+    return parts.looks_like(data) or data.startswith(b"(job")
+
+
+def load_map_or_sheets(path):
+    """The rows of a map, or of the map of a sheet or part that stands in its place, and the outline of these."""
+    data = sheet_bytes(path)
+    if not is_outline(data):
+        return map_rows(path, data[: MAP_LIMIT + 1]), None
+    given = files_of(path, data)
+    say_beside(given)
+    work = work_of(given)
+    return drawn_of(work).map.rows, work
+
+
+def map_rows(path, data):
+    if is_outline(data):
+        raise console.found(f"{path}: this is a sheet or a part, and a map is expected here; --also takes further sheets")
     try:
-        return sheets.read_map(console.read_bytes(path, MAP_LIMIT))
+        return sheets.read_map(data)
     except sheets.FormError as error:
         raise console.found(f"{console.at(path, error.line, error.column)}: expected {error.expected}, found {error.found}") from error
     except sheets.RefusedMap as error:
         raise console.found(f"{path}: {error}") from error
 
 
-def load_map_of(path, given):
-    """The rows of a map that has the size of a sheet's."""
+def load_map_of(path, work):
+    """The rows of a map that has the size of an outline's."""
     rows = load_map(path)
-    side = given.sheet.cells_a_side()
+    side = work.sheets[0].sheet.cells_a_side()
     if len(rows) != side:
-        raise console.found(f"{path}: {len(rows)} cells a side, but {given.path} has {side}")
+        raise console.found(f"{path}: {len(rows)} cells a side, but {work.path} has {side}")
     return rows
 
 
-def rows_of(path, given):
+def rows_of(path, work, drawn):
     """The rows of the library's map, or of a map file that does not contradict it.
 
-    A file may be of several sheets of the plate, this one among them: then C may have become D or I, and D may have become I.
+    A file may be of further sheets of the plate: then C may have become D or I, and D may have become I.
     """
-    own = drawn_of(given).map.rows
+    own = drawn.map.rows
     if path is None:
         return own
-    rows = load_map_of(path, given)
+    rows = load_map_of(path, work)
     for row, (letters, owns) in enumerate(zip(rows, own)):
         for column, (letter, library_letter) in enumerate(zip(letters, owns)):
             if RISING.index(letter) < RISING.index(library_letter):
                 place = f"column {column}, row {row} is {letter}, where the library draws {library_letter}"
-                raise console.found(f"{path}: this is no map of {given.path}: {place}")
+                raise console.found(f"{path}: this is no map of {work.path}: {place}")
     return rows

@@ -101,9 +101,10 @@ class Drawn:
     def __init__(self, job, store=library.STORE_MOST):
         self.job = job
         self._row = job.row()
-        self._store = library.store_of(store)
-        number, cells, nodes = library.draw(self._row, self._store)
+        lent = library.store_of(store)
+        number, cells, nodes = library.draw(self._row, lent)
         check(number)
+        self._store = library.trees_in(lent, nodes)
         side = 1 << (job.n - job.m)
         self.map = Map(bytes(cells[: side * side]), side, job.x, job.y, 1 << job.m, nodes)
 
@@ -113,17 +114,21 @@ class Drawn:
 
     def points(self, spots):
         """Bounds of each of any number of points (x, y), in millimetres and in their order."""
-        spots = [place(spot) for spot in spots]
+        return self.points_at([place(spot) for spot in spots])
+
+    def points_at(self, spots):
+        """The same of points in whole hundredths of 32 bits."""
+        return [Nearest(*numbers) for numbers in zip(*self.replies(spots))]
+
+    def replies(self, spots):
+        """The same as three lists: lo, hi and edge of each point."""
         found = []
         for start in range(0, len(spots), library.SPOTS_MOST):
-            found += self._asked(spots[start : start + library.SPOTS_MOST])
-        return found
-
-    def _asked(self, spots):
-        number, reply = library.points(self._row, [z for spot in spots for z in spot], self._store)
-        check(number)
-        width = library.NEAREST_NUMBERS
-        return [Nearest(*reply[at : at + width]) for at in range(0, len(reply), width)]
+            asked = spots[start : start + library.SPOTS_MOST]
+            number, reply = library.points(self._row, [z for spot in asked for z in spot], self._store)
+            check(number)
+            found += reply
+        return [found[at :: library.NEAREST_NUMBERS] for at in range(library.NEAREST_NUMBERS)]
 
 
 def place(spot):

@@ -10,6 +10,7 @@ import os
 from functools import lru_cache
 from pathlib import Path
 
+from . import console
 from .version import VERSION
 
 JOB_NUMBERS = 583
@@ -50,8 +51,11 @@ ARGUMENTS = {
 }
 
 
-class LibraryMissing(Exception):
+class LibraryMissing(console.Ended):
     """No library was found, or one that was built for other rows, nodes or functions."""
+
+    def __init__(self, message):
+        super().__init__(console.FAILED, message)
 
 
 def places():
@@ -136,6 +140,11 @@ def draw(row, store, room=CELLS_MOST):
     cells, nodes = (ctypes.c_uint8 * room)(), _size(0)
     refusal = library().clearance_map(row, len(row), store, len(store), cells, room, ctypes.byref(nodes))
     return refusal, cells, nodes.value
+
+
+def trees_in(store, nodes):
+    """A copy of a store's trees alone: of what was lent they are often a hundredth, and a part keeps those of many jobs."""
+    return (ctypes.c_int32 * (nodes * NODE_NUMBERS)).from_buffer_copy(store)
 
 
 def point(row, x, y, store):

@@ -90,6 +90,7 @@ where its rows or nodes have other lengths, its major version is another, or it 
 """
 COMMAND_FILES = {
     "*.sheet": "Job sheets.",
+    "*.part": "Parts: JSON that names the sheets of one outline, which stand beside it.",
     "*.map": "Maps, as `clearmap` and `clearance map` write them.",
     library.FILE: "The proved library; tools/build-library of the repository builds it.",
 }

@@ -7,11 +7,15 @@ from .lengths import root_down, root_up
 
 @dataclass(frozen=True)
 class Nearest:
-    """What the library answers for one point: the two bounds squared, in fine units, and the first edge that gives the upper one."""
+    """What the library answers for one point: the two bounds squared, in fine units, and the first edge that gives the upper one.
+
+    Of a part `sheet` tells which of its jobs has that edge.
+    """
 
     lo_squared: int
     hi_squared: int
     edge: int
+    sheet: int = 0
 
     @property
     def lo(self):

@@ -8,7 +8,7 @@ import re
 import struct
 
 from . import sheets
-from .lengths import PLACES, millimetres
+from .lengths import PLACES
 from .picture import MEANINGS, NAMES, NOTE, TITLE
 
 # Stands for bounds that the library cannot be asked for.
@@ -44,7 +44,7 @@ def bounds(drawn):
     spots = [spot(drawn.job, column, row) for row in range(side) for column in range(side)]
     asked = [index for index, point in enumerate(spots) if answerable(point)]
     found = [(NONE, NONE)] * len(spots)
-    replies = drawn.points([tuple(map(millimetres, spots[index])) for index in asked])
+    replies = drawn.points_at([spots[index] for index in asked])
     for index, nearest in zip(asked, replies):
         found[index] = int(nearest.lo.scaleb(PLACES)), int(nearest.hi.scaleb(PLACES))
     return found

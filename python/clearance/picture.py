@@ -249,14 +249,22 @@ def scale_bar(job, place):
 
 
 def facts(jobs, place):
-    """The jobs' lengths, under the scale bar. They have one plate and cell; reaches and grains that differ are all told."""
+    """The jobs' lengths, under the scale bar. They have one plate and cell; reaches and grains may differ."""
     lengths = {"plate": [1 << jobs[0].n], "cell": [1 << jobs[0].m], "reach": [j.reach for j in jobs], "grain": [j.grain for j in jobs]}
-    words = [f"{name} {' and '.join(plain(millimetres(length)) for length in dict.fromkeys(some))} mm" for name, some in lengths.items()]
+    words = [f"{name} {these(some)} mm" for name, some in lengths.items()]
     left, top = place.foot
     return [
         text(left, top + 2 * ROW - 4, ", ".join(words[:2])),
         text(left, top + 3 * ROW - 4, ", ".join(words[2:])),
     ]
+
+
+def these(lengths):
+    """Lengths that may differ, in millimetres: one or two of them, or the least and the greatest of more."""
+    found = [plain(millimetres(length)) for length in dict.fromkeys(lengths)]
+    if len(found) <= 2:
+        return " and ".join(found)
+    return " to ".join(plain(millimetres(length)) for length in (min(lengths), max(lengths)))
 
 
 def legend(job, rows, place):

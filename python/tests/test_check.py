@@ -27,7 +27,7 @@ SQUARE = b"""(job
 def found(data):
     """The warnings of a sheet by their kinds."""
     given = inputs.Input("sheet", data, read_sheet(data), Job.from_sheet(data))
-    return {finding.kind: finding for finding in findings(given)}
+    return {finding.kind: finding for finding in findings(inputs.Work("sheet", (given,)))}
 
 
 class Warnings(unittest.TestCase):
@@ -197,9 +197,13 @@ class Check(unittest.TestCase):
         self.assertEqual((status, [len(one["warnings"]) for one in told]), (1, [0, 2]))
 
     def test_unreadable(self):
-        status, text, error = command("check", self.square, "no such sheet")
-        self.assertEqual((status, text), (3, ""))
+        """The others are told all the same."""
+        status, text, error = command("check", "no such sheet", self.square, self.broken)
+        self.assertEqual((status, text), (3, command("check", self.square)[1]))
         self.assertTrue(error.startswith("clearance: no such sheet: "))
+        status, told, _ = self.data("no such sheet", self.square)
+        self.assertEqual((status, [one["accepted"] for one in told]), (3, [False, True]))
+        self.assertIn("no such sheet: ", told[0]["message"])
 
     def test_usage(self):
         self.assertIn("clearance check part.sheet", command("check", "--help")[1])

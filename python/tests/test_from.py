@@ -15,8 +15,10 @@ from pathlib import Path
 from unittest import mock
 
 from clearance.bounds import outline_box
-from clearance.drawings import dxf, outline, svg, svg_check
+from clearance.drawings import dxf, outline, reading, svg, svg_check
 from clearance.drawings.fitting import pieces
+from clearance.drawings.reading import Wish
+from clearance.drawings.svg_numbers import Fault
 from clearance.job import Job
 
 from .samples import command_bytes
@@ -239,9 +241,10 @@ class Dxf(Case):
         outer = block("OUTER", insert("INNER", *points(10, (100, 0, 0))), entity("TEXT", *points(10, (0, 0)), (40, 1), (1, "hi")))
         turned = insert("OUTER", *points(10, (0, 0, 0)), (41, 2), (42, 2), (50, 90))
         path = self.file("part.dxf", dxf_file(turned, blocks=inner + outer))
-        job, err = self.job(path)
+        self.finding(path, "1 TEXT makes no edge")
+        job, err = self.job(path, "--leave-out", "text")
         self.assertEqual(job.edges, ((0, 20000, -1000, 22000),))
-        self.assertIn("left out: 1 TEXT", err)
+        self.assertIn("left out: 1 text", err)
         rows = insert("INNER", *points(10, (0, 0, 0)), (70, 2), (71, 3), (44, 50), (45, 30))
         self.assertEqual(len(self.edges(rows, blocks=inner)), 6)
         uneven = block("ROUND", entity("CIRCLE", *points(10, (0, 0)), (40, 10)))
@@ -270,9 +273,13 @@ class Dxf(Case):
 
     def test_others_are_left_out_and_counted(self):
         others = entity("TEXT", *points(10, (0, 0)), (40, 1), (1, "hi")) * 2 + entity("POINT", *points(10, (0, 0)))
-        _, err = self.job(self.file("part.dxf", dxf_file(LINE, others)))
-        self.assertIn("left out: 1 POINT, 2 TEXT", err)
-        self.finding(self.file("part.dxf", dxf_file(others)), "nothing in it that makes an edge; left out: 1 POINT, 2 TEXT")
+        path = self.file("part.dxf", dxf_file(LINE, others))
+        self.finding(path, "2 TEXT make no edge", "--leave-out text leaves it out")
+        _, err = self.job(path, "--leave-out", "text")
+        self.assertIn("left out: 1 point, 2 text", err)
+        self.assertIn("no point of what was taken", err)
+        nothing = self.file("part.dxf", dxf_file(others))
+        self.finding(nothing, "nothing in it that makes an edge; left out: 1 point, 2 text", words=("--leave-out", "text"))
         self.finding(self.file("part.dxf", dxf_file()), "nothing in it")
 
     def test_numbers_that_are_none(self):
@@ -291,7 +298,17 @@ class Dxf(Case):
         self.finding(self.file("part.dxf", dxf_file(entity("LINE", *points(10, (0, 0))))), "has no end")
 
     def test_far_coordinates(self):
-        self.finding(self.file("part.dxf", dxf_file(entity("LINE", *points(10, (0, 0)), *points(11, (10_001, 0))))), "10,000 mm at most")
+        far = self.file("part.dxf", dxf_file(entity("LINE", *points(10, (0, 0)), *points(11, (10_001, 0)))))
+        self.finding(far, "10,000 mm at most", "--at moves it")
+        self.assertEqual(self.job(far, "--at", "-5000", "0")[0].edges, ((-500000, 0, 500100, 0),))
+        wide = self.file("part.dxf", dxf_file(entity("LINE", *points(10, (-6000, 0)), *points(11, (16_000, 0)))))
+        self.finding(wide, "it is 22,000.00 by 0.00 mm, and the largest plate 10,485.76 mm wide")
+        for number in (1e308, -1e200, 1e20):
+            for code in (10, 30):
+                huge = entity("LINE", (10, 0), (20, 0), (30, 0), *points(11, (5, 5, 0))).replace(f"{code}\n0\n", f"{code}\n{number!r}\n", 1)
+                status, _, err = ran(self.file("part.dxf", dxf_file(huge)), "--reach", "1")
+                self.assertEqual((status, len(err) < 200), (1, True), err)
+                self.assertIn("mm is the most that is read", err)
 
     def test_broken_files(self):
         good = dxf_file(LINE)
@@ -362,12 +379,19 @@ class Svg(Case):
         return outline_box(self.edges(*shapes, **more))
 
     def test_smooth_commands_behind_the_other_kind(self):
-        """The standard takes the current point for their first control point; svgelements does not, so they are findings."""
-        wrong = "M10,50 C10,80 40,80 40,50 T80,50", "M10,50 Q25,90 40,50 S70,10 80,50", "M1,5 S7,1 8,5 T9,9", "M1,5 Q2,9 4,5 T8,5 s1,1 2,2"
-        for data in wrong:
-            self.finding(self.file("part.svg", svg_file(f'<path d="{data}"/>')), "behind")
-        for data in ("M10,50 C10,80 40,80 40,50 S70,10 80,50", "M1,5 Q2,9 4,5 T8,5", "M1,3 C1,2 3,4 5,6 L7,8 T9,9", "M1,1 L5,5 S7,7 9,5"):
-            self.assertGreater(len(self.edges(f'<path d="{data}"/>')), 1)
+        """The standard takes the current point for their first control point; svgelements mirrors the other kind's."""
+        for smooth, plain in (
+            ("M10,10 C10,30 40,30 40,10 T50,10", "M10,10 C10,30 40,30 40,10 Q40,10 50,10"),
+            ("M10,10 C10,30 40,30 40,10 T50,10 T58,4", "M10,10 C10,30 40,30 40,10 Q40,10 50,10 Q60,10 58,4"),
+            ("M10,10 Q25,39 40,10 S50,1 55,10", "M10,10 Q25,39 40,10 C40,10 50,1 55,10"),
+            ("M1,5 S7,1 8,5 T9,9", "M1,5 C1,5 7,1 8,5 Q8,5 9,9"),
+            ("M1,5 Q2,9 4,5 T8,5 s1,1 2,2", "M1,5 Q2,9 4,5 Q6,1 8,5 C8,5 9,6 10,7"),
+            ("M10,10 C10,30 40,30 40,10 S50,1 55,10", "M10,10 C10,30 40,30 40,10 C40,-10 50,1 55,10"),
+            ("M1,5 Q2,9 4,5 T8,5", "M1,5 Q2,9 4,5 Q6,1 8,5"),
+            ("M1,3 C1,2 3,4 5,6 L7,8 T9,9", "M1,3 C1,2 3,4 5,6 L7,8 Q7,8 9,9"),
+            ("M1,1 L5,5 S7,7 9,5", "M1,1 L5,5 C5,5 7,7 9,5"),
+        ):
+            self.assertEqual(self.edges(f'<path d="{smooth}"/>'), self.edges(f'<path d="{plain}"/>'), smooth)
 
     def test_arcs_that_are_as_good_as_straight(self):
         for radius in (1e7, 1e9, 1e12):
@@ -417,7 +441,7 @@ class Svg(Case):
             numbers = [round(chance.uniform(1, 20), 4) for _ in range(3)] + [chance.randrange(2), chance.randrange(2)]
             ends = [round(chance.uniform(-10, 10), 4) for _ in range(4)]
             path = f'<path transform="matrix({matrix})" d="M{ends[:2]}A{numbers}{ends[2:]}"/>'.replace("[", " ").replace("]", " ")
-            (arc,) = svg.read(svg_file(path).encode()).curves
+            (arc,) = svg.read(svg_file(path).encode(), Wish()).curves
             at = standard_arc(ends, *numbers)
             for step in range(17):
                 x, y = at(step / 16)
@@ -464,17 +488,21 @@ class Svg(Case):
     def test_units_are_asked_for(self):
         line = '<line x1="0" y1="0" x2="6" y2="0"/>'
         box = 'viewBox="0 0 60 40"'
-        for root in ("", 'width="60" height="40"', f'width="60px" height="40px" {box}', box, 'width="60mm" height="40mm"'):
-            self.finding(self.file("part.svg", svg_file(line, root=root)), "--units mm|cm|m|in|ft")
+        for root in ("", 'width="60" height="40"', f'width="60px" height="40px" {box}', box, f'width="100%" height="100%" {box}'):
+            self.finding(self.file("part.svg", svg_file(line, root=root)), "--units mm|cm|m|in|ft|px|pt|pc")
             edge = self.edges(line, root=root, words=("--units", "cm"))[0]
             self.assertEqual(edge[2] - edge[0], 6000)
         self.assertEqual(self.edges(line, words=("--units", "in"))[0], (0, 101600, 15240, 101600))
 
     def test_text_is_left_out(self):
         text = '<text x="1" y="1">Hi <tspan>you</tspan></text>'
-        _, err = self.job(self.file("part.svg", svg_file(text, '<line x1="0" y1="0" x2="5" y2="0"/>')))
+        path = self.file("part.svg", svg_file(text, '<line x1="0" y1="0" x2="5" y2="0"/>'))
+        self.finding(path, ":2:1: <text>: it makes no edge: convert it to paths; --leave-out text leaves it out")
+        _, err = self.job(path, "--leave-out", "text")
         self.assertIn("left out: 1 text", err)
-        self.finding(self.file("part.svg", svg_file("<text>Hi</text>")), "nothing in it that makes an edge; left out: 1 text")
+        self.assertIn("no point of what was taken", err)
+        alone = self.file("part.svg", svg_file("<text>Hi</text>"))
+        self.finding(alone, "nothing in it that makes an edge; left out: 1 text", words=("--leave-out", "text"))
 
     def test_faults_that_svgelements_passes_over(self):
         for shape in (
@@ -486,33 +514,37 @@ class Svg(Case):
             '<polyline points="0 0 1"/>',
             '<polyline points="0 0 1 x"/>',
             '<circle cx="5"/>',
-            '<ellipse rx="5"/>',
-            '<circle r="5mm"/>',
-            '<rect width="50%" height="3"/>',
+            '<ellipse cx="5"/>',
+            '<circle r="5em"/>',
+            '<circle r="5 mm"/>',
             '<rect width="-5" height="3"/>',
             '<g transform="turn(5)"/>',
             '<g style="transform: scale(2)"/>',
-            '<use href="#later"/><line id="later" x2="5"/>',
+            '<use href="#none"/>',
             '<use href="other.svg#a"/>',
             '<g id="a"><use href="#a"/></g>',
-            '<svg width="3" height="3"/>',
-            '<symbol id="s" viewBox="0 0 1 1"/>',
-            "<style>g {transform: scale(2)}</style>",
+            '<svg width="3" height="3" transform="scale(2)"/>',
+            '<svg viewBox="0 0 1"/>',
         ):
             self.finding(self.file("part.svg", svg_file('<line x1="0" y1="0" x2="5" y2="0"/>', shape)), ":3:")
 
     def test_path_data(self):
-        goods = {"": 0, " M1,2": 1, "m-1-2.5.5 3": 2, "M0 0a1 1 0 0110 0": 2, "M0 0a1 1 0 01.5.5z": 3, "M1e3-2E-1L3 4 5 6": 3, "M0 0zz": 3}
-        for good, parts in goods.items():
-            self.assertEqual(svg_check.path_parts(good)[0], parts, good)
+        goods = {
+            **{"": "", " M1,2": "M", "m-1-2.5.5 3": "ML", "M0 0a1 1 0 0110 0": "MA", "M0 0a1 1 0 01.5.5z": "MAZ", "M0 0zz": "MZZ"},
+            "M1e3-2E-1L3 4 5 6": "MLL",
+        }
+        for good, letters in goods.items():
+            self.assertEqual("".join(svg_check.path_letters(good)), letters, good)
         for bad in ("1 2", "M", "M1", "M1 2 3", "M0 0a1 1 0 2 1 1 1", "M0 0L1 2;", "M0 0zm", "M0 0h", "M0 0L nan 1", "M٣ 1", "M5. 1"):
-            with self.assertRaises(svg_check.Fault, msg=bad):
-                svg_check.path_parts(bad)
+            with self.assertRaises(Fault, msg=bad):
+                svg_check.path_letters(bad)
 
-    def test_lost_shapes_are_noticed(self):
-        # svgelements passes over a shape whose stroke it cannot read.
-        with mock.patch("svgelements.Rect.__init__", side_effect=ValueError):
-            self.finding(self.file("part.svg", svg_file('<rect width="5" height="5"/><line x2="5"/>')), "gives 1 of its 2 lines and curves")
+    def test_lost_parts_are_noticed(self):
+        path = self.file("part.svg", svg_file('<path d="M0 0L5 5L9 9"/>'))
+        with mock.patch("svgelements.Path.__iter__", return_value=iter(())):
+            self.finding(path, "<path>: svgelements gives 0 of its 3 lines and curves")
+        with mock.patch("svgelements.Path.__init__", side_effect=ValueError("what\ncomes")):
+            self.finding(path, "<path>: its path cannot be read: ValueError: what comes")
         self.assertEqual(len(self.edges('<rect width="0" height="5"/><circle r="0"/><path d=""/><line x2="5"/>')), 1)
 
     def test_entities_are_not_expanded(self):
@@ -529,10 +561,12 @@ class Svg(Case):
         uses = '<defs><line id="a0" x1="0" y1="0" x2="5" y2="0"/>'
         for level in range(1, 9):
             uses += f'<g id="a{level}">' + f'<use href="#a{level - 1}"/>' * 10 + "</g>"
-        self.finding(self.file("part.svg", svg_file(uses + "</defs>")), "too much")
+        self.finding(self.file("part.svg", svg_file(uses + '</defs><use href="#a8"/>')), "more than 10,000 elements")
         self.finding(self.file("part.svg", svg_file("<g>" * 5000 + "</g>" * 5000)), "deeper than")
-        long = '<g transform="' + "scale(1)" * 20_000 + '">' + '<circle r="1"/>' * 2000 + "</g>"
-        self.finding(self.file("part.svg", svg_file(long)), "too much")
+        long = '<defs><path id="p" d="M0 0' + "l1 1" * 1000 + '"/></defs>' + '<use href="#p"/>' * 30
+        self.finding(self.file("part.svg", svg_file(long)), "more than 20,000 lines and curves")
+        turns = '<g transform="' + "rotate(1)" * 40_000 + '"><line x2="5"/></g>'
+        self.assertEqual(len(self.edges(turns)), 1)
         many = '<path d="M0 0' + "l1 1" * 1_000_000 + '"/>'
         self.finding(self.file("part.svg", svg_file(many)), "more than 1,000,000 bytes")
 
@@ -569,20 +603,38 @@ class Verb(Case):
         self.assertEqual(ran(path)[0], 2)
         for reach in ("0", "-1", "1/3", "nan", "inf", "x", "1e999999999", "1e-999999999"):
             self.assertEqual(ran(path, "--reach", reach)[0], 2, reach)
-        for words in (("--split",), ("--json",), ("--units", "px"), ("--within", "0"), ("--within", "0.00001"), ("--within", "11")):
+        for words in (("--split",), ("--json",), ("--units", "yd"), ("--leave-out", "lines"), ("--leave-out", ","), ("--within", "0"), ("--within", "0.00001"), ("--within", "11")):
             self.assertEqual(ran(path, "--reach", "1", *words)[0], 2, words)
 
     def test_without_the_packages(self):
         svg_path, dxf_path = self.file("part.svg", svg_file()), self.file("part.dxf", dxf_file(LINE))
         code = (
             "import sys; sys.modules['ezdxf'] = sys.modules['svgelements'] = None\n"
-            "from clearance import cli; cli.VERBS = {'from': 'from_drawing'}; sys.exit(cli.main(sys.argv[1:]))"
+            "from clearance import cli; sys.exit(cli.main(sys.argv[1:]))"
         )
         for path, name in ((svg_path, "svgelements"), (dxf_path, "ezdxf")):
             command = [sys.executable, "-c", code, "from", str(path), "--reach", "1"]
             done = subprocess.run(command, capture_output=True, check=False, cwd=Path(__file__).resolve().parents[1])
-            self.assertEqual((done.returncode, done.stdout), (1, b""), done.stderr)
+            self.assertEqual((done.returncode, done.stdout), (2, b""), done.stderr)
             self.assertIn(f"needs the Python package {name} (Debian: python3-{name}; pip: {name})".encode(), done.stderr)
+
+    def test_another_python_that_has_the_package(self):
+        """It is named; python3 of the path here is one that has every package."""
+        python = self.file("python3", "#!/bin/sh\nexit 0\n")
+        python.chmod(0o755)
+        with mock.patch.object(reading.sys, "executable", "/usr/bin/python3"), mock.patch.dict(os.environ, {"PATH": str(self.folder)}):
+            self.assertEqual(reading.other_python("json"), str(python))
+            with self.assertRaisesRegex(reading.PackageMissing, f"PYTHON={python} clearance"):
+                reading.package("no_such_package")
+            python.write_text("#!/bin/sh\nexit 1\n")
+            self.assertIsNone(reading.other_python("json"))
+
+    def test_layers_and_layouts_are_of_dxf_drawings(self):
+        path = self.file("part.svg", svg_file())
+        for words in (["--layer", "0"], ["--not-layer", "0"], ["--layout", "Model"]):
+            status, out, err = ran(path, "--reach", "1", *words)
+            self.assertEqual((status, out), (2, b""), err)
+            self.assertIn("are of DXF drawings", err)
 
     @needs_ezdxf
     def test_a_plate_and_a_place(self):
@@ -600,15 +652,20 @@ class Verb(Case):
         self.assertNotIn("warning", said)
         for place, warning in (("240", "edges go off the plate"), ("206", "edges come closer than the reach to the plate's border")):
             self.assertIn(warning, self.job(path, "--plate", "0", "0", "300", "--at", place, "20")[1])
-        self.finding(path, "out of its range", words=("--plate", "0", "0", "99999"))
+        for words, said in (
+            (["0", "0", "20000"], "the side is 20000 mm, and goes from 0.01 to 10485.76 mm"),
+            (["0", "-10001", "9"], "Y is -10001 mm, and goes from -10000 to 10000 mm"),
+        ):
+            status, out, err = ran(path, "--reach", "2.5", "--plate", *words)
+            self.assertEqual((status, out, err), (2, b"", f"clearance: --plate: {said}\n"))
         for words in (["--plate", "0", "0"], ["--plate", "0", "0", "0"], ["--plate", "0", "0", "x"], ["--at", "0.005", "0"]):
             self.assertEqual(ran(path, "--reach", "2.5", *words)[0], 2, words)
 
     @needs_svgelements
     def test_what_is_said(self):
         shapes = '<path d="M0 0L5 0L10 0L10 10"/><path d="M20 5L20 5"/><text>x</text>'
-        status, out, err = ran(self.file("part.svg", svg_file(shapes)), "--reach", "2.501")
-        self.assertEqual(status, 0)
+        status, out, err = ran(self.file("part.svg", svg_file(shapes)), "--reach", "2.501", "--leave-out", "text")
+        self.assertEqual(status, 0, err)
         self.assertEqual(Job.from_sheet(out).reach, 251)
         for sentence in (
             "2 edges of 64: 2 lines, 0 cubics",
@@ -617,7 +674,8 @@ class Verb(Case):
             "left out: 1 text",
             "2 ends that meet no other; the widest gap is 14.1422 mm, at (0, 40) mm",
             "bounds: x from 0 to 10 mm, y from 30 to 40 mm",
-            "W is 0 hundredths (0 mm)",
+            "the outline is 10 by 10 mm",
+            "W is 0 hundredths (0 mm): no point of what was taken or of the outline",
             "reach: 251 hundredths, 2.501 mm and W rounded up",
         ):
             self.assertIn(sentence, err)
@@ -650,7 +708,7 @@ class Verb(Case):
     def test_one_sheet_of_a_split_has_its_number_too(self):
         path = self.file("part.svg", svg_file('<circle r="5"/>'))
         self.assertEqual(ran(path, "--reach", "2.5", "--split", "-o", self.folder / "part.sheet")[0], 0)
-        self.assertEqual(sorted(os.listdir(self.folder)), ["part-1.sheet", "part.svg"])
+        self.assertEqual(sorted(os.listdir(self.folder)), ["part-1.sheet", "part.part", "part.svg"])
 
     @needs_svgelements
     def test_all_files_are_written_or_none(self):
@@ -702,7 +760,7 @@ class Examples(Case):
 
     def test_w_holds_and_is_at_most_twice_what_sampling_finds(self):
         for path, reader in self.drawings():
-            curves = reader.read(path.read_bytes()).curves
+            curves = reader.read(path.read_bytes(), Wish()).curves
             worst = 0.0
             for piece in outline.joined([piece for curve in curves for piece in pieces(curve, 1.0)]):
                 edge = edge_of(piece)

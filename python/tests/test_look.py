@@ -274,7 +274,6 @@ class Look(unittest.TestCase):
         self.assertEqual(svg, command("look", one, self.folder.file("both.map", both.encode()), "--also", two)[1])
         self.assertNotEqual(both, command("map", one)[1])
         self.assertIn("M12 12L14 14", svg)
-        self.assertEqual(command("look", one, "--also", two, "--html")[:2], (2, ""))
         odd = self.folder.file("odd.sheet", SHEET.replace(b"(cell 1)", b"(cell 2)"))
         status, svg, said = command("look", one, "--also", odd)
         self.assertEqual((status, svg), (1, ""))

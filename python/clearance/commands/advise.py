@@ -2,7 +2,7 @@
 
 from decimal import Decimal
 
-from .. import advice, console, figures, inputs, library, sheets, trees
+from .. import advice, console, figures, inputs, library, parts, sheets, trees
 from ..job import Job
 from ..lengths import plain
 from ..reasons import EDGES, FORM, RANGE, named, range_text, refusal
@@ -16,16 +16,21 @@ sheet has now and what is advised, or with --write gives the sheet that is advis
 
 The sheet may be refused for its cell (4), its trees (5 and 6), or a plate's, cell's or grain's number out of range;
 form, edges and reach have to be right, else they are a finding.
+
+{inputs.PARTS}The plate is the smallest around the whole outline then, each sheet has its own grain, nodes are those of all sheets
+and E is the largest. With --write -o FILE.sheet the advised sheets are written, FILE-1.sheet, FILE-2.sheet ..., and FILE.part.
 """
 EXAMPLES = """\
   clearance advise part.sheet
   clearance advise part.sheet --write -o better.sheet
+  clearance advise flange.part --write -o better.sheet
   clearance advise --write - < part.sheet | clearance map -
 """
 
 
 def arguments(parser):
-    parser.add_argument("sheet", metavar="SHEET", help="the job sheet; - is standard input")
+    parser.add_argument("sheet", metavar="SHEET", help="a job sheet or a part; - is standard input, for a sheet")
+    inputs.add_also(parser)
     parser.add_argument("--write", action="store_true", help="give the advised sheet instead of a comparison")
     parser.add_argument("-o", "--output", metavar="FILE", help="write the advised sheet to FILE instead of standard output")
     parser.add_argument("--json", action="store_true", help="write the comparison as data")
@@ -36,21 +41,61 @@ def run(asked):
     write = asked.write or asked.output is not None
     if write and asked.json:
         raise console.misused("--json is for the comparison: leave out --write and -o")
-    data = inputs.sheet_bytes(asked.sheet)
-    sheet = usable(asked.sheet, data)
-    try:
-        job = advice.advised(sheet.edge_values(), sheet.reach.value, store=asked.store)
-    except advice.Unadvisable as reason:
-        raise console.found(f"{asked.sheet}: there is no advice: {reason}") from reason
-    if write:
-        console.write_bytes("-" if asked.output is None else asked.output, job.to_sheet())
-        return console.DONE
-    now, then = facts(job_now(sheet), refusal(data, asked.store)), facts(job, refusal(job.to_sheet(), asked.store))
-    if asked.json:
-        console.put_json({"file": asked.sheet, "now": now, "advised": then})
+    inputs.one_standard_input(asked.sheet, *asked.also)
+    given = inputs.files(asked.sheet, asked.also)
+    is_part = given.part is not None or len(given.sheets) > 1
+    if write and is_part and asked.output in (None, "-"):
+        raise console.misused("the advised sheets of a part are several files: -o FILE.sheet")
+    found = [usable(path, data) for path, data in given.sheets]
+    same_work(given, found)
+    jobs = advised(given.name, found, asked.store)
+    if not write:
+        tell(asked, given, [job_now(sheet) for sheet in found], jobs)
+    elif is_part:
+        write_part(asked.output, given, jobs)
     else:
-        console.put(comparison(f"{asked.sheet}, with {asked.store:,} numbers of store", now, then))
+        console.write_bytes("-" if asked.output is None else asked.output, jobs[0].to_sheet())
     return console.DONE
+
+
+def same_work(given, found):
+    """Sheets that are one outline have one plate, cell and reach."""
+    for (path, _), sheet in zip(given.sheets, found):
+        for name in ("x", "y", "n", "m", "reach"):
+            number = getattr(sheet, name)
+            if number.value != getattr(found[0], name).value:
+                where = console.at(path, number.line, number.column)
+                raise console.found(f"{where}: another plate, cell or reach than {given.sheets[0][0]}, and advice is for one of each")
+
+
+def advised(name, found, store):
+    """The advised jobs of the sheets of one outline, on one plate."""
+    reach = found[0].reach.value
+    try:
+        plate = advice.plate_for([edge for sheet in found for edge in sheet.edge_values()], reach)
+        return [advice.advised(sheet.edge_values(), reach, plate, store) for sheet in found]
+    except advice.Unadvisable as reason:
+        raise console.found(f"{name}: there is no advice: {reason}") from reason
+
+
+def write_part(output, given, jobs):
+    if len(jobs) > parts.SHEETS_MOST:
+        raise console.found(f"{given.name}: {len(jobs)} sheets are given, and a part has {parts.SHEETS_MOST} at most")
+    console.write_all(parts.files(output, jobs, given.part.source if given.part else {}))
+    console.say(f"{given.name}: {parts.told_written(*parts.names(output, len(jobs)))}")
+
+
+def tell(asked, given, now, then):
+    """The comparison of the jobs as they are with the advised ones."""
+    refused_now = [refusal(data, asked.store) for _, data in given.sheets]
+    refused_then = [refusal(job.to_sheet(), asked.store) for job in then]
+    both = facts(now, refused_now), facts(then, refused_then)
+    if asked.json:
+        names = [path for path, _ in given.sheets]
+        console.put_json({"file": given.name, "sheets": names, "now": both[0], "advised": both[1]})
+    else:
+        sheets_told = f", {len(now)} sheets" if len(now) > 1 else ""
+        console.put(comparison(f"{given.name}{sheets_told}, with {asked.store:,} numbers of store", *both))
 
 
 def usable(path, data):
@@ -71,20 +116,27 @@ def job_now(sheet):
     return Job(*(number.value for number in numbers), sheet.edge_values(), sheet.grain.value)
 
 
-def facts(job, refused):
-    """What is compared, as data; none where a number out of range leaves nothing to tell. `refused` is 0 where it is accepted."""
-    plate, cell = (1 << power if in_range(power, sheets.EXPONENTS) else None for power in (job.n, job.m))
-    grained = in_range(job.grain, sheets.GRAINS)
+def facts(jobs, refused):
+    """What is compared, as data; none where a number out of range leaves nothing to tell. `refused` has 0 for each that is accepted."""
+    first, most = jobs[0], max(job.grain for job in jobs)
+    plate, cell = (1 << power if in_range(power, sheets.EXPONENTS) else None for power in (first.n, first.m))
     return {
-        "refused": refused,
-        "x_mm": figures.number(job.x),
-        "y_mm": figures.number(job.y),
+        "refused": next(filter(None, refused), 0),
+        "x_mm": figures.number(first.x),
+        "y_mm": figures.number(first.y),
         "side_mm": plate and figures.number(plate),
         "cell_mm": cell and figures.number(cell),
-        "grain": job.grain,
-        "nodes": trees.nodes(job.edges, job.grain) if grained and not trees.refusal(job.edges, job.grain) else None,
-        "band_mm": float(figures.band(job.grain, job.m)) if grained and cell else None,
+        "grain": most,
+        "grains": [job.grain for job in jobs],
+        "nodes": nodes_of(jobs),
+        "band_mm": float(figures.band(most, first.m)) if in_range(most, sheets.GRAINS) and cell else None,
     }
+
+
+def nodes_of(jobs):
+    """How many nodes the trees of all jobs have, or none where one has no trees."""
+    grained = all(in_range(job.grain, sheets.GRAINS) and not trees.refusal(job.edges, job.grain) for job in jobs)
+    return sum(trees.nodes(job.edges, job.grain) for job in jobs) if grained else None
 
 
 def in_range(number, limits):
@@ -112,7 +164,7 @@ COLUMNS = {
     "sheet": lambda told: "refused " + named(told["refused"]) if told["refused"] else "accepted",
     "plate": lambda told: f"{side(told['side_mm'])} at ({length(told['x_mm'])}, {length(told['y_mm'])})",
     "cell": lambda told: side(told["cell_mm"]),
-    "grain": lambda told: f"{told['grain']}",
+    "grain": lambda told: " to ".join(str(grain) for grain in sorted({min(told["grains"]), max(told["grains"])})),
     "nodes": lambda told: "none" if told["nodes"] is None else f"{told['nodes']:,}",
     "band E": lambda told: side(told["band_mm"]),
 }

@@ -2,13 +2,10 @@
 
 from dataclasses import asdict, dataclass
 
-from .. import console, figures, inputs, library, reasons, trees
+from .. import console, figures, inputs, library, trees
 from ..findings import findings
-from ..job import Job
 from ..lengths import plain
-from ..maps import Map
-from ..refusals import Refused
-from ..sheets import read_sheet
+from ..parts import DrawnPart
 
 SUMMARY = "say whether sheets are accepted, with figures and warnings"
 DESCRIPTION = f"""\
@@ -21,112 +18,130 @@ It warns where the outline goes off the plate, or comes closer than the reach to
 where the outline is smaller than 5 mm (were millimetres written instead of hundredths?); and where an end of an edge
 meets no other end. A warning changes no verdict, and the status only with --strict.
 
-Status 1 means that a sheet is refused or, with --strict, that there is a warning; the report is written all the same.
+{inputs.PARTS}A part has one report: edges, outline, gaps and cells are those of the whole, E is the largest of its sheets.
+
+Status 1 means that a sheet is refused or, with --strict, that there is a warning; 3 that a file cannot be read. The report of
+the others is written all the same.
 """
 EXAMPLES = """\
   clearance check part.sheet
+  clearance check flange.part
   clearance check --strict sheets/*.sheet
   clearance check --json - < part.sheet
 """
 
 
 def arguments(parser):
-    parser.add_argument("sheets", metavar="SHEET", nargs="+", help="a job sheet; - is standard input")
+    parser.add_argument("sheets", metavar="SHEET", nargs="+", help="a job sheet or a part; - is standard input, for a sheet")
     parser.add_argument("--strict", action="store_true", help="a warning too gives status 1")
-    parser.add_argument("--json", action="store_true", help="write a list with one object a sheet")
+    parser.add_argument("--json", action="store_true", help="write a list with one object a SHEET")
 
 
 def run(asked):
     inputs.one_standard_input(*asked.sheets)
-    # All files are read before anything is written, so that nothing is written where one cannot be read.
-    texts = [(path, inputs.sheet_bytes(path)) for path in asked.sheets]
-    reports = [checked(path, data) for path, data in texts]
+    reports = [checked(path) for path in asked.sheets]
     for report in reports:
         report.complain()
     if asked.json:
         console.put_json([report.data() for report in reports])
     else:
         console.put("\n".join(filter(None, (report.text() for report in reports))))
-    return console.FOUND if any(report.is_wrong(asked.strict) for report in reports) else console.DONE
+    return max(report.status(asked.strict) for report in reports)
 
 
-def checked(path, data):
+def checked(path):
     try:
-        job = Job.from_sheet(data)
-        drawn = job.map()
-    except Refused as refused:
-        return Unaccepted(path, refused.number, refused.word, *reasons.first_place(data, refused.number, library.STORE_MOST))
-    given = inputs.Input(path, data, read_sheet(data), job)
-    by_program = not trees.refusal(job.edges, job.grain, library.PROGRAM_STORE)
-    return Accepted(given, drawn, by_program, findings(given))
+        work = inputs.load(path)
+        drawn = inputs.drawn_of(work)
+    except console.Ended as ended:
+        return Unaccepted(path, ended)
+    by_program = [not trees.refusal(given.job.edges, given.job.grain, library.PROGRAM_STORE) for given in work.sheets]
+    return Accepted(work, drawn, by_program, findings(work))
 
 
 @dataclass(frozen=True)
 class Unaccepted:
-    """A sheet that is refused: it has only a message."""
+    """A sheet that is refused, or a file that is none: it has only a message."""
 
     path: str
-    number: int
-    word: str
-    place: tuple
-    cause: str
+    ended: console.Ended
 
     def complain(self):
-        console.say(inputs.refusal_text(self.path, self.place, self.number, self.cause))
+        console.say(self.ended)
 
-    def is_wrong(self, _strict):
-        return True
+    def status(self, _strict):
+        return self.ended.status
 
     def text(self):
         return ""
 
     def data(self):
-        line, column = (place or None for place in self.place)
-        told = {"number": self.number, "word": self.word, "line": line, "column": column, "cause": self.cause}
-        return {"file": self.path, "accepted": False, "refused": told}
+        told = self.ended.data() if isinstance(self.ended, inputs.RefusedSheet) else None
+        return {"file": self.path, "accepted": False, "refused": told, "message": str(self.ended)}
 
 
 @dataclass(frozen=True)
 class Accepted:
-    """A sheet that is drawn: its map, whether the program accepts it too, and its warnings."""
+    """An outline that is drawn: its map, of which of its sheets the program accepts each too, and its warnings."""
 
-    given: inputs.Input
-    drawn: Map
-    by_program: bool
+    work: inputs.Work
+    drawn: DrawnPart
+    by_program: list
     warnings: list
 
     def complain(self):
         pass
 
-    def is_wrong(self, strict):
-        return strict and bool(self.warnings)
-
-    def numbers(self):
-        return self.drawn.nodes * library.NODE_NUMBERS
+    def status(self, strict):
+        return console.FOUND if strict and self.warnings else console.DONE
 
     def text(self):
-        job = self.given.job
-        program = "accepts it too" if self.by_program else "refuses it with 6 (store)"
+        job, nodes = self.work.job, self.drawn.nodes()
         rows = {
+            **self.sheets_row(),
             **figures.sizes(job),
-            "trees": f"{figures.many(self.drawn.nodes, 'node')}, {self.numbers():,} numbers of store",
-            "clearmap": f"{program}: it lends {library.PROGRAM_STORE:,} numbers",
+            "grain": figures.grains([given.job.grain for given in self.work.sheets]),
+            "trees": f"{figures.many(nodes, 'node')}, {nodes * library.NODE_NUMBERS:,} numbers of store",
+            "clearmap": f"{self.program()}: it lends {library.PROGRAM_STORE:,} numbers",
             "band E": f"{plain(figures.band(job.grain, job.m))} mm",
-            "cells": figures.shares_text(self.drawn),
+            "cells": figures.shares_text(self.drawn.map),
         }
-        lines = [f"{self.given.path}: accepted", *(f"  {name:9} {told}" for name, told in rows.items())]
-        lines += [f"{console.at(self.given.path, found.line)}: warning: {found.text}" for found in self.warnings]
+        lines = [f"{self.work.path}: accepted", *(f"  {name:9} {told}" for name, told in rows.items())]
+        lines += [f"{console.at(found.file, found.line)}: warning: {found.text}" for found in self.warnings]
         return "\n".join(lines) + "\n"
 
+    def sheets_row(self):
+        names = [given.path for given in self.work.sheets]
+        return {"sheets": f"{len(names)}: {figures.these(names)}"} if names != [self.work.path] else {}
+
+    def program(self):
+        """What the program says of the sheets, which it reads one at a time."""
+        refused = [given.path for given, accepts in zip(self.work.sheets, self.by_program) if not accepts]
+        if len(self.by_program) == 1:
+            return "refuses it with 6 (store)" if refused else "accepts it too"
+        return f"refuses {', '.join(refused)} with 6 (store)" if refused else "accepts each sheet too"
+
     def data(self):
-        shares = figures.shares(self.drawn)
+        shares = figures.shares(self.drawn.map)
         return {
-            "file": self.given.path,
+            "file": self.work.path,
             "accepted": True,
-            **figures.sizes_data(self.given.job),
-            "nodes": self.drawn.nodes,
-            "store_numbers": self.numbers(),
-            "accepted_by_clearmap": self.by_program,
+            **figures.sizes_data(self.work.job),
+            "nodes": self.drawn.nodes(),
+            "store_numbers": self.drawn.nodes() * library.NODE_NUMBERS,
+            "accepted_by_clearmap": all(self.by_program),
+            "sheets": [self.sheet_data(index) for index in range(len(self.by_program))],
             "cells": {letter: {"count": count, "per_cent": round(share, 4)} for letter, (count, share) in shares.items()},
             "warnings": [asdict(found) for found in self.warnings],
+        }
+
+    def sheet_data(self, index):
+        given, nodes = self.work.sheets[index], self.drawn.each[index].map.nodes
+        return {
+            "file": given.path,
+            "edges": len(given.job.edges),
+            "grain": given.job.grain,
+            "nodes": nodes,
+            "store_numbers": nodes * library.NODE_NUMBERS,
+            "accepted_by_clearmap": self.by_program[index],
         }

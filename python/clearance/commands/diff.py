@@ -7,16 +7,20 @@ from .. import console, inputs
 SUMMARY = "the cells in which two maps differ"
 DESCRIPTION = """\
 Says how many cells have one letter in the first map and another in the second, for each pair of letters, or "the same".
+
+In place of a map a job sheet may stand, or a part, as `clearance from --split` writes it: the library draws its map then, of
+a part the joined one. What a file is its first bytes tell. Where both are drawn they have to be of one plate and cell.
 """
 EXAMPLES = """\
   clearance diff before.map after.map
   clearance map bracket.sheet | clearance diff bracket.map - --cells
+  clearance diff flange.part flange.map
 """
 
 
 def arguments(parser):
-    parser.add_argument("old", metavar="MAP", help="the first map; - is standard input, for one of the two")
-    parser.add_argument("new", metavar="MAP", help="the second map")
+    parser.add_argument("old", metavar="MAP", help="the first map, or a sheet or part; - is standard input, for one of the two")
+    parser.add_argument("new", metavar="MAP", help="the second map, or a sheet or part")
     parser.add_argument("--cells", action="store_true", help="each cell too: column and row, from 0 at the lower left, and its two letters")
     parser.add_argument("--json", action="store_true", help="as JSON")
 
@@ -63,7 +67,9 @@ def as_text(side, cells, each):
 
 def run(asked):
     inputs.one_standard_input(asked.old, asked.new)
-    old, new = inputs.load_map(asked.old), inputs.load_map(asked.new)
+    (old, first), (new, second) = inputs.load_map_or_sheets(asked.old), inputs.load_map_or_sheets(asked.new)
+    if first and second:
+        inputs.same_plate(first.sheets[0], second.sheets[0])
     if len(old) != len(new):
         raise console.found(f"{asked.new}: {len(new)} cells a side, but {asked.old} has {len(old)}")
     cells = changed(old, new)

@@ -1,21 +1,26 @@
 """The verb `from`: a job sheet from a DXF or an SVG drawing."""
 
 import argparse
-import errno
 import os
 from dataclasses import replace
 from decimal import Decimal, InvalidOperation
 from fractions import Fraction
 
-from .. import advice, console, inputs, library
+from .. import advice, console, inputs, library, parts, sheets
 from ..bounds import outline_box
 from ..drawings import dxf, svg
 from ..drawings.curves import Unusable
 from ..drawings.outline import outline_of, placed, reach_for
-from ..drawings.reading import BYTES_MOST, UNITS
+from ..drawings.reading import BYTES_MOST, UNITS, PackageMissing, Wish
 from ..findings import off_plate
 from ..gaps import gaps
 from ..lengths import millimetres, plain, root_up
+
+
+
+def kinds_text(kinds_of):
+    return "; ".join(f"{kind} ({meaning})" for kind, meaning in kinds_of.items())
+
 
 SUMMARY = "make a job sheet from a DXF or an SVG drawing"
 DESCRIPTION = f"""\
@@ -30,10 +35,17 @@ rounded. Lines that go on exactly straight are joined; edges without length are 
 `clearance advise`, but for a plate that is given. Of a drawing that is split, a cell is clear where the maps of all its sheets
 say C, and in reach where one of them says I.
 
-DXF, read by the package ezdxf: the model space, LINE, LWPOLYLINE, POLYLINE, ARC, CIRCLE, ELLIPSE, SPLINE and INSERT, all
-in the plane z = 0, on all layers, hidden ones too. SVG, read by the package svgelements: all shapes and paths, by their
+Everything that is drawn is taken, or nothing is written: whatever makes no edge is a finding, unless --leave-out names its kind.
+Then, and where a layout or layers are chosen, W is said of what was taken.
+
+DXF, read by the package ezdxf: the model space, or the layout that --layout names; LINE, LWPOLYLINE, POLYLINE, ARC, CIRCLE,
+ELLIPSE, SPLINE and INSERT, all in the plane z = 0, on all layers, hidden ones too, or on those that --layer names; of polylines
+with a width the centre lines. An entity on layer 0 of a block is on its insert's layer. A POINT has no length: it is left out,
+and counted. What ezdxf had to mend is a finding. SVG, read by the package svgelements: all shapes and paths, by their
 centre lines, y upward from the lower left corner of the viewBox. Text is left out: convert it to paths. Files have
 {BYTES_MOST:,} bytes at most.
+
+Kinds that --leave-out takes, of a DXF drawing: {kinds_text(dxf.KINDS)}.
 """
 EXAMPLES = """\
   clearance from examples/drawings/bracket.dxf --reach 2.5 -o bracket.sheet
@@ -43,7 +55,15 @@ EXAMPLES = """\
 """
 PLATE = "the plate: its lower left corner, and a side that it has at least, in millimetres (the smallest around the part)"
 AT = "move the part so that the lower left corner of its box is there, in millimetres"
+SPLIT = """\
+write FILE-1.sheet, FILE-2.sheet ... of up to 64 edges each, on one plate, and FILE.part, which stands for the whole part; also \
+where one sheet is enough
+"""
+LEAVE_OUT = "kinds of what is drawn to leave out, as text,hatch"
+KINDS = {**dxf.KINDS, **svg.KINDS}
 WITHIN = Fraction(1, 10_000), Fraction(10)
+# So many findings are told one by one.
+FINDINGS_MOST = 20
 
 
 def length(word):
@@ -60,8 +80,13 @@ def length(word):
 
 def plate_of(x, y, side):
     """The plate of a corner and a side in hundredths: x, y, n with the smallest 2^n that is not below the side."""
-    if side < 1:
-        raise console.misused("--plate: the side is above 0")
+    lowest, highest = sheets.COORDINATES
+    for name, number in (("X", x), ("Y", y)):
+        if not lowest <= number <= highest:
+            raise console.misused(f"--plate: {name} is {told(number)} mm, and goes from {told(lowest)} to {told(highest)} mm")
+    most = 1 << sheets.EXPONENTS[1]
+    if not 0 < side <= most:
+        raise console.misused(f"--plate: the side is {told(side)} mm, and goes from 0.01 to {told(most)} mm")
     return x, y, (side - 1).bit_length()
 
 
@@ -72,10 +97,23 @@ def closeness(word):
     return number
 
 
+def kinds(word):
+    """The kinds of a list with commas."""
+    found = frozenset(filter(None, word.split(",")))
+    unknown = sorted(found - set(KINDS))
+    if unknown or not found:
+        raise argparse.ArgumentTypeError(f"{word!r}: the kinds are {', '.join(KINDS)}")
+    return found
+
+
 def arguments(parser):
     parser.add_argument("drawing", metavar="DRAWING", help="a DXF or an SVG file")
     parser.add_argument("--reach", metavar="MM", type=length, required=True, help="the jet's reach in millimetres")
     parser.add_argument("--units", choices=UNITS, help="the unit of the drawing's numbers, whatever the drawing says")
+    parser.add_argument("--leave-out", metavar="KIND,…", type=kinds, action="append", default=[], help=LEAVE_OUT)
+    parser.add_argument("--layout", metavar="NAME", help="of a DXF drawing this layout in place of its model space")
+    parser.add_argument("--layer", metavar="NAME", action="append", default=[], help="of a DXF drawing this layer alone; may be repeated")
+    parser.add_argument("--not-layer", metavar="NAME", action="append", default=[], help="of a DXF drawing all but this layer; may be repeated")
     parser.add_argument(
         "--within", metavar="MM", type=closeness, default=Fraction(1, 100), help="how close cubics stay to arcs and splines (0.01)"
     )
@@ -86,7 +124,7 @@ def arguments(parser):
     parser.add_argument(
         "--split",
         action="store_true",
-        help="write FILE-1.sheet, FILE-2.sheet ... of up to 64 edges each, on one plate; also where one is enough",
+        help=SPLIT,
     )
     parser.add_argument("--json", action="store_true", help="write what is said of the sheet as JSON to standard output; needs -o")
 
@@ -101,20 +139,38 @@ def run(asked):
         drawing, outline = read(asked)
         reach = reach_for(asked.reach * 100, outline.off)
         jobs = jobs_of(outline.edges, reach, plate, asked)
+    except PackageMissing as error:
+        raise console.misused(f"{asked.drawing}: {error}") from error
     except Unusable as error:
-        raise console.found(f"{console.at(asked.drawing, *error.place)}: {error}") from error
+        raise unfit(asked.drawing, error.all) from error
     except advice.Unadvisable as error:
         raise console.found(f"{asked.drawing}: {error}") from error
     files = written_names(asked, len(jobs))
     facts = facts_of(drawing, outline, asked.reach, reach, files)
+    facts["drawing"] = os.path.basename(asked.drawing)
+    facts["part"] = parts.names(asked.output, len(jobs))[1] if asked.split else None
     off = off_plate(replace(jobs[0], edges=outline.edges))
     facts["warnings"] = [off[2]] if off else []
-    write_all([(name, job.to_sheet()) for name, job in zip(files, jobs)])
+    console.write_all(parts.files(asked.output, jobs, facts) if asked.split else [(asked.output, jobs[0].to_sheet())])
     for sentence in sentences(facts):
         console.say(f"{asked.drawing}: {sentence}")
     if asked.json:
         console.put_json(facts)
     return console.DONE
+
+
+def unfit(path, reasons):
+    """Says the findings of a drawing but the last, with which the verb ends."""
+    told = [f"{console.at(path, *reason.place)}: {reason}" for reason in reasons[:FINDINGS_MOST]]
+    if len(reasons) > FINDINGS_MOST:
+        told.append(f"{path}: and {len(reasons) - FINDINGS_MOST} findings more")
+    for message in told[:-1]:
+        console.say(message)
+    return console.found(told[-1])
+
+
+def wish_of(asked):
+    return Wish(asked.units, frozenset().union(*asked.leave_out), asked.layout, tuple(asked.layer), tuple(asked.not_layer))
 
 
 def read(asked):
@@ -125,9 +181,11 @@ def read(asked):
         raise Unusable("it is no DXF and no SVG drawing")
     if len(data) > BYTES_MOST:
         raise Unusable(f"it has more than {BYTES_MOST:,} bytes, the most of a drawing that are read")
-    drawing = kind.read(data, UNITS.get(asked.units))
+    if kind is svg and (asked.layout is not None or asked.layer or asked.not_layer):
+        raise console.misused(f"{asked.drawing}: --layout, --layer and --not-layer are of DXF drawings, and this is an SVG drawing")
+    drawing = kind.read(data, wish_of(asked))
     if not drawing.curves:
-        raise Unusable("there is nothing in it that makes an edge" + left_out_words(drawing.left_out, "; left out: {}"))
+        raise Unusable("; ".join(["there is nothing in it that makes an edge", *choices(drawing.left_out, drawing.chosen)]))
     return drawing, placed(outline_of(drawing.curves, float(asked.within * 100)), asked.at)
 
 
@@ -135,7 +193,7 @@ def jobs_of(edges, reach, plate, asked):
     """One job, or as many on one plate as it takes."""
     most = library.EDGES_MOST
     if not asked.split and len(edges) > most:
-        several = "--split -o FILE.sheet writes several sheets for one plate"
+        several = "--split -o FILE.sheet writes several sheets, and FILE.part, which stands for the whole part"
         raise Unusable(f"it has {len(edges)} edges, and a sheet has {most} at most; {several}")
     plate = plate or advice.plate_for(edges, reach)
     groups = [edges[start : start + most] for start in range(0, len(edges), most)]
@@ -143,31 +201,7 @@ def jobs_of(edges, reach, plate, asked):
 
 
 def written_names(asked, count):
-    if not asked.split:
-        return [asked.output]
-    stem, suffix = os.path.splitext(asked.output)
-    return [f"{stem}-{number}{suffix}" for number in range(1, count + 1)]
-
-
-def write_all(files):
-    """Writes all files or none: several are written under other names first, and put in their places when all are there."""
-    if len(files) == 1:
-        console.write_bytes(*files[0])
-        return
-    beside = {name: f"{name}.part{os.getpid()}" for name, _ in files}
-    try:
-        for name, data in files:
-            if os.path.lexists(name) and not os.path.isfile(name):
-                raise FileExistsError(errno.EEXIST, "it is there and no file")
-            with open(beside[name], "wb") as file:
-                file.write(data)
-        for name, other in beside.items():
-            os.replace(other, name)
-    except OSError as error:
-        for other in beside.values():
-            if os.path.exists(other):
-                os.remove(other)
-        raise console.failed(name, error) from error
+    return parts.names(asked.output, count)[0] if asked.split else [asked.output]
 
 
 def facts_of(drawing, outline, asked_reach, reach, files):
@@ -178,9 +212,12 @@ def facts_of(drawing, outline, asked_reach, reach, files):
     return {
         "files": [name for name in files if name != "-"],
         "edges": {"count": len(outline.edges), "lines": lines, "cubics": len(outline.edges) - lines},
+        "unit": drawing.unit,
+        "size": [told(right - left), told(high - low)],
         "joined": outline.joined,
         "without_length": outline.dropped,
         "left_out": dict(sorted(drawing.left_out.items())),
+        "chosen": drawing.chosen,
         "remarks": drawing.remarks,
         "loose_ends": len(open_ends),
         "widest_gap": widest_gap(open_ends),
@@ -207,8 +244,16 @@ def widest_gap(open_ends):
     return {"mm": plain(root_up(widest.squared * 256)), "at": [told(number) for number in widest.end]}
 
 
-def left_out_words(left_out, words):
-    return words.format(", ".join(f"{count} {kind}" for kind, count in sorted(left_out.items()))) if left_out else ""
+def choices(left_out, chosen):
+    """What was left out, and what was chosen, in words."""
+    if left_out:
+        yield f"left out: {many(left_out)}"
+    for what, choice in chosen.items():
+        yield f"{what} taken: {many(choice['taken']) or 'none'}; not taken: {many(choice['not_taken']) or 'none'}"
+
+
+def many(counts):
+    return ", ".join(f"{count} {name}" for name, count in sorted(counts.items()))
 
 
 def counted(number, thing):
@@ -220,12 +265,12 @@ def sentences(facts):
     edges, files = facts["edges"], facts["files"]
     room = f"on {len(files)} sheets" if len(files) > 1 else f"of {library.EDGES_MOST}"
     yield f"{counted(edges['count'], 'edge')} {room}: {counted(edges['lines'], 'line')}, {counted(edges['cubics'], 'cubic')}"
+    yield f"unit: {facts['unit']}; the outline is {facts['size'][0]} by {facts['size'][1]} mm"
     if facts["joined"]:
         yield f"{counted(facts['joined'], 'line')} joined to others that go on straight"
     if facts["without_length"]:
         yield f"{counted(facts['without_length'], 'edge')} without length left out"
-    if facts["left_out"]:
-        yield left_out_words(facts["left_out"], "left out: {}")
+    yield from choices(facts["left_out"], facts["chosen"])
     yield from facts["remarks"]
     gap = facts["widest_gap"]
     if gap:
@@ -236,8 +281,10 @@ def sentences(facts):
         yield "closed: every end meets another"
     across, up = facts["bounds"]["x"], facts["bounds"]["y"]
     yield f"bounds: x from {across[0]} to {across[1]} mm, y from {up[0]} to {up[1]} mm"
-    yield f"W is {facts['w_hundredths']} hundredths ({facts['w']} mm): no point of the drawing or of the outline is farther from the other"
+    partial = facts["left_out"] or any(choice["not_taken"] for choice in facts["chosen"].values())
+    drawn = "of what was taken" if partial else "of the drawing"
+    yield f"W is {facts['w_hundredths']} hundredths ({facts['w']} mm): no point {drawn} or of the outline is farther from the other"
     yield f"reach: {facts['reach_hundredths']} hundredths, {facts['reach_asked']} mm and W rounded up"
     yield from (f"warning: {warning}" for warning in facts["warnings"])
-    if len(files) > 1:
-        yield f"written: {', '.join(files)}"
+    if facts["part"]:
+        yield parts.told_written(files, facts["part"])

@@ -4,18 +4,19 @@ import argparse
 import os
 import re
 
-from .. import console, inputs, page, picture
-from ..maps import joined
+from .. import console, figures, inputs, page, picture
 
 SUMMARY = "a picture of a map: SVG, or an HTML page that tells about each cell"
-DESCRIPTION = """\
+DESCRIPTION = f"""\
 Writes a picture of a sheet and its map: the cells, the outline over them, and axes with the drawing's own x and y in
-millimetres. Without MAP the library draws the map, of several sheets of one plate (--also) as `clearance map` does.
-"""
+millimetres. Without MAP the library draws the map, of several sheets as `clearance map` does.
+
+{inputs.PARTS}"""
 EXAMPLES = """\
   clearance look bracket.sheet -o bracket.svg
   clearance look bracket.sheet bracket.map --html -o bracket.html
   clearance look bracket.sheet --overlay > over-the-drawing.svg
+  clearance look flange.part --html -o flange.html
   clearance look flange.sheet --also bracket.sheet -o plate.svg
 """
 OVERLAY = """\
@@ -24,7 +25,8 @@ the drawing's y is at -y
 """
 HTML = """\
 one HTML page that needs no network: for the cell under the pointer, or moved to with the arrow keys, its letter, its place, and \
-the library's bounds on the distance of its centre from the outline (of its lower left corner where the cell's side is 0.01 mm); \
+the library's bounds on the distance of its centre from the outline (of its lower left corner where the cell's side is 0.01 mm), \
+of several sheets the least of each; \
 #COLUMN,ROW at the end of its address begins at that cell
 """
 
@@ -38,7 +40,6 @@ def width(word):
 
 def arguments(parser):
     add_files(parser)
-    parser.add_argument("--also", metavar="SHEET", action="append", default=[], help="another sheet of the same plate; may be repeated")
     parser.add_argument("-o", "--output", metavar="FILE", default="-", help="where the picture is written (standard output)")
     kind = parser.add_mutually_exclusive_group()
     kind.add_argument("--actual", action="store_true", help="true size: printed at 100 %%, the plate's side is as long as it is in metal")
@@ -55,15 +56,14 @@ def arguments(parser):
 
 
 def add_files(parser):
-    """A sheet and its map."""
-    parser.add_argument("sheet", metavar="SHEET", help="the job sheet; - is standard input")
+    """A sheet or several, and their map."""
+    parser.add_argument("sheet", metavar="SHEET", help="a job sheet or a part; - is standard input, for a sheet")
     parser.add_argument("map", metavar="MAP", nargs="?", help="its map; without it the library draws it; - is standard input")
+    inputs.add_also(parser)
 
 
 def check_usage(asked):
     inputs.one_standard_input(asked.sheet, asked.map, *asked.also)
-    if asked.also and asked.html:
-        raise console.misused("--also does not go with --html: a page has the bounds of one sheet")
     if asked.outline and not asked.overlay:
         raise console.misused("--outline goes with --overlay; the other pictures have the outline")
     if asked.overlay and (asked.width or asked.grid):
@@ -76,32 +76,31 @@ def shown_name(path):
     return name.encode("utf-8", "replace").decode("utf-8")
 
 
-def made(asked, given, others, rows):
+def made(asked, work, drawn, rows):
     """What is asked for, as text."""
-    jobs = [other.job for other in others]
+    first, *others = [given.job for given in work.sheets]
     if asked.overlay:
-        return picture.overlay(picture.together(given.job, jobs), rows, asked.outline)
+        return picture.overlay(work.job, rows, asked.outline)
     wide = asked.width or picture.DEFAULT_WIDTH
-    svg = picture.picture(given.job, rows, wide, asked.grid, asked.actual, jobs)
+    svg = picture.picture(first, rows, wide, asked.grid, asked.actual, others)
     if not asked.html:
         return svg
-    source = "The letters are the library's." if asked.map is None else "The letters are those of the map file that was given."
-    return page.page(shown_name(given.path), source, svg, wide, inputs.drawn_of(given), rows)
+    return page.page(shown_name(work.path), source(asked, work), svg, wide, drawn, rows)
 
 
-def rows_of(asked, given, others):
-    """The rows of the map that is shown: the file's, or of all sheets by the library."""
-    if asked.map is not None or not others:
-        return inputs.rows_of(asked.map, given)
-    return joined([inputs.drawn_of(one).map for one in (given, *others)]).rows
+def source(asked, work):
+    """Where the letters and the bounds of a page are from."""
+    letters = "The letters are the library's" if asked.map is None else "The letters are those of the map file that was given"
+    if len(work.sheets) == 1:
+        return f"{letters}."
+    names = figures.these([shown_name(given.path) for given in work.sheets])
+    return f"{letters}, for {len(work.sheets)} sheets as one outline: {names}. Each bound is the least of the sheets' bounds."
 
 
 def run(asked):
     check_usage(asked)
-    given = inputs.load_sheet(asked.sheet)
-    others = [inputs.load_sheet(path) for path in asked.also]
-    for other in others:
-        inputs.same_plate(given, other)
-    rows = rows_of(asked, given, others)
-    console.write_bytes(asked.output, made(asked, given, others, rows).encode("utf-8"))
+    work = inputs.load(asked.sheet, asked.also)
+    drawn = inputs.drawn_of(work)
+    rows = inputs.rows_of(asked.map, work, drawn)
+    console.write_bytes(asked.output, made(asked, work, drawn, rows).encode("utf-8"))
     return console.DONE

@@ -5,22 +5,25 @@ import os
 from .. import console, inputs
 from ..figures import many
 from ..library import PROGRAM_STORE, STORE_MOST
-from ..maps import LETTERS, joined, refusal_text
+from ..maps import LETTERS, refusal_text
+from ..parts import SUFFIX
 
 SUMMARY = "draw the clearance maps of sheets"
-DESCRIPTION = """\
+DESCRIPTION = f"""\
 Draws the map of a sheet and writes it to standard output, in the text of the program `clearmap`. Of a refused sheet that
 text is `(refused N)`, and the cause goes to standard error.
 
 Several sheets: with -o each gets a file of its own and a line that tells of it; where one is refused, a file that its map
-would have replaced stays. Without, they have to be of one plate and
-cell, as `clearance from --split` writes them, and one map is drawn of all: a cell is I where one sheet's map has I, C where
-all have C, and D elsewhere. Where reaches differ each outline keeps its own.
+would have replaced stays. Without, they have to be of one plate and cell, and one map is drawn of all: a cell is I where one
+sheet's map has I, C where all have C, and D elsewhere. Where reaches differ each outline keeps its own.
+
+{inputs.PARTS}With -o a part has one map.
 
 A sheet is never refused for want of store (6) unless --store lends less than it needs.
 """
 EXAMPLES = f"""\
   clearance map bracket.sheet > bracket.map
+  clearance map flange.part > flange.map
   clearance map flange-1.sheet flange-2.sheet > flange.map
   clearance map -o maps *.sheet
   clearance map --store {PROGRAM_STORE} bracket.sheet        as `clearmap < bracket.sheet`
@@ -28,8 +31,8 @@ EXAMPLES = f"""\
 
 
 def arguments(parser):
-    parser.add_argument("sheets", metavar="SHEET", nargs="+", help="a job sheet, or - for standard input")
-    parser.add_argument("-o", "--output", metavar="DIR", help="write SHEET's map to DIR/SHEET.map, with .map for .sheet")
+    parser.add_argument("sheets", metavar="SHEET", nargs="+", help="a job sheet or a part; - is standard input, for a sheet")
+    parser.add_argument("-o", "--output", metavar="DIR", help="write SHEET's map to DIR/SHEET.map, with .map for .sheet or .part")
     inputs.add_store(parser, STORE_MOST, "numbers of store to lend; left out, as many as any job needs")
     parser.add_argument("--json", action="store_true", help="with -o: the lines as data")
 
@@ -42,36 +45,21 @@ def run(asked):
     return many_maps(asked)
 
 
-def drawn(path, store):
-    """A sheet and its map."""
-    given = inputs.load_sheet(path)
-    return given, inputs.drawn_of(given, store).map
-
-
 def one_map(asked):
     inputs.one_standard_input(*asked.sheets)
-    progress = console.Progress(len(asked.sheets))
-    sheets, maps = [], []
     try:
-        for index, path in enumerate(asked.sheets):
-            progress.step(index, path)
-            given, found = drawn(path, asked.store)
-            sheets.append(given)
-            inputs.same_plate(sheets[0], given)
-            maps.append(found)
+        drawn = inputs.drawn_of(inputs.load(asked.sheets[0], asked.sheets[1:]), asked.store)
     except inputs.RefusedSheet as refused:
         console.put(refusal_text(refused.number))
         raise
-    finally:
-        progress.end()
-    console.put((maps[0] if len(maps) == 1 else joined(maps)).text())
+    console.put(drawn.map.text())
     return console.DONE
 
 
 def named(path, folder):
-    """The file of a sheet's map."""
-    name = os.path.basename(path)
-    return os.path.join(folder, (name[: -len(".sheet")] if name.endswith(".sheet") else name) + ".map")
+    """The file of a sheet's or a part's map."""
+    stem, suffix = os.path.splitext(os.path.basename(path))
+    return os.path.join(folder, (stem if suffix in (".sheet", SUFFIX) else stem + suffix) + ".map")
 
 
 def many_maps(asked):
@@ -99,15 +87,18 @@ def many_maps(asked):
 
 
 def one_of_many(path, target, store):
-    """Draws and writes one sheet's map; a sheet that cannot be drawn does not keep the others from it."""
+    """Draws and writes one sheet's or part's map; one that cannot be drawn does not keep the others from it."""
     try:
-        _, found = drawn(path, store)
+        drawn = inputs.drawn_of(inputs.load(path), store)
+        found = drawn.map
         console.write_bytes(target, found.text())
     except console.Ended as ended:
         return {"sheet": path, "status": ended.status, "refusal": getattr(ended, "number", None), "message": str(ended)}
-    return {"sheet": path, "status": console.DONE, "map": target, "cells": found.side, "nodes": found.nodes, **found.counts()}
+    told = {"map": target, "sheets": len(drawn.each), "cells": found.side, "nodes": drawn.nodes(), **found.counts()}
+    return {"sheet": path, "status": console.DONE, **told}
 
 
 def line(answer):
     counts = ", ".join(f"{answer[letter]} {letter}" for letter in LETTERS)
-    return f"{answer['sheet']}: {answer['map']}, {answer['cells']} cells a side, {counts}, {many(answer['nodes'], 'node')}\n"
+    sheets = f", {answer['sheets']} sheets" if answer["sheets"] > 1 else ""
+    return f"{answer['sheet']}: {answer['map']}{sheets}, {answer['cells']} cells a side, {counts}, {many(answer['nodes'], 'node')}\n"

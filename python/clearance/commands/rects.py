@@ -11,15 +11,17 @@ from ..rectangles import maximal
 from .look import add_files
 
 SUMMARY = "the largest clear rectangles of a map"
-DESCRIPTION = """\
+DESCRIPTION = f"""\
 Lists the rectangles of C cells that no larger one contains, the largest area first (then the lowest, the leftmost, the
 widest), in cells and in millimetres. Columns and rows are counted from 0 at the lower left; x and y are the drawing's,
 of the rectangle's lower left corner. Every point of a listed rectangle is at least the reach away from the outline,
 since every point of a C cell is. C does not tell part from stock: a rectangle may lie in either. Without MAP the library
-draws the map.
-"""
+draws the map, of several sheets as `clearance map` does.
+
+{inputs.PARTS}"""
 EXAMPLES = """\
   clearance rects bracket.sheet
+  clearance rects flange.part --also bracket.sheet
   clearance rects bracket.sheet bracket.map --holds 12 30.5 --json
   clearance rects bracket.sheet --stock -10 -15 70 75.5
 """
@@ -109,13 +111,14 @@ def heading(total, listed, part):
 
 
 def run(asked):
-    inputs.one_standard_input(asked.sheet, asked.map)
-    given = inputs.load_sheet(asked.sheet)
-    rows = on_stock(given.job, inputs.rows_of(asked.map, given), asked.stock)
-    found = wanted(given.job, maximal(rows), asked.holds)
+    inputs.one_standard_input(asked.sheet, asked.map, *asked.also)
+    work = inputs.load(asked.sheet, asked.also)
+    job = work.job
+    rows = on_stock(job, inputs.rows_of(asked.map, work, inputs.drawn_of(work)), asked.stock)
+    found = wanted(job, maximal(rows), asked.holds)
     if not found:
         raise console.found(f"{asked.map or asked.sheet}: there is no clear rectangle{condition(asked.holds)}")
-    numbers = [told(given.job, one) for one in (found if asked.all else found[: asked.most])]
+    numbers = [told(job, one) for one in (found if asked.all else found[: asked.most])]
     if asked.json:
         listed = [{name: as_json(number) for name, number in row.items()} for row in numbers]
         console.put_json({"count": len(found), "rectangles": listed})

@@ -10,6 +10,8 @@ from fractions import Fraction
 
 # The parts of a hundredth that a drawing's numbers are taken to.
 FINENESS = 10**6
+# No number of a drawing is larger, in hundredths: 100,000 km.
+LARGEST = 10**13
 
 
 # An arc that is nowhere farther than this from its chord is taken for the chord, and that goes into W. Its centre would be
@@ -23,14 +25,27 @@ class Unusable(Exception):
     def __init__(self, message, line=0, column=0):
         super().__init__(message)
         self.place = (line, column)
+        self.all = (self,)
+
+
+class Findings(Unusable):
+    """Several reasons at once, in the order of the drawing."""
+
+    def __init__(self, reasons):
+        super().__init__(str(reasons[0]), *reasons[0].place)
+        self.all = tuple(reasons)
 
 
 def taken(number):
     """A number to the nearest 10^-6, halves upward."""
     try:
-        return Fraction(math.floor(Fraction(number) * FINENESS + Fraction(1, 2)), FINENESS)
+        exact = Fraction(number)
     except (ValueError, OverflowError) as error:
         raise Unusable(f"there is a number in it that is none: {number}") from error
+    if abs(exact) > LARGEST:
+        power = len(str(abs(exact.numerator))) - len(str(exact.denominator)) - 2
+        raise Unusable(f"there is a length in it of about 10^{power} mm, and {LARGEST // 100:,} mm is the most that is read")
+    return Fraction(math.floor(exact * FINENESS + Fraction(1, 2)), FINENESS)
 
 
 def whole(number):

@@ -1,24 +1,27 @@
 """Curves of a DXF drawing, which the package ezdxf reads.
 
-All of the model space is read, on whatever layer and whether its layer is shown or not. Blocks are gone into. Everything
-must lie in the plane z = 0, seen from above or from below.
+The model space is read, or the layout that is asked for, on all layers or on those that are asked for, whether a layer is
+shown or not. Blocks are gone into. Everything must lie in the plane z = 0, seen from above or from below.
 """
 
-import contextlib
-import io
-import logging
 import math
-from collections import Counter
+from dataclasses import dataclass
 from fractions import Fraction
 
 from .curves import FLAT, Arc, Bezier, Spline, Unusable, floats, taken
-from .reading import PARTS_MOST, UNITS, Drawing, package
+from .dxf_choice import MODEL, Layers, chosen, same, shown
+from .dxf_file import File, Notices, looks_like, quiet, told  # noqa: F401  (looks_like is for those who read drawings)
+from .dxf_kinds import KINDS, REFERENCE, Groups  # noqa: F401  (KINDS too)
+from .reading import PARTS_MOST, UNITS, Drawing, Undrawn, package
 
 BLOCKS_DEEP_MOST = 50
 # Measured: following splines of so many control points takes about 5 s. Those that are one Bézier do not count, and those
 # with weights or a degree above 3 count twice.
 SPLINE_POINTS_MOST = 500
-BINARY = b"AutoCAD Binary DXF\r\n\x1a\x00"
+# The flags of a block that stands for another file, and of attributes.
+EXTERNAL, INVISIBLE, CONSTANT = 4 | 8, 1, 2
+# Marks the frame of a fitted polyline, which is not drawn.
+FRAME = 16
 
 # The units of the header's $INSUNITS that have one length, in hundredths of a millimetre.
 INSUNITS = {
@@ -33,92 +36,64 @@ INSUNITS = {
     13: UNITS["mm"] / 1000,
     14: 10 * UNITS["cm"],
 }
+INSUNIT_NAMES = {1: "in", 2: "ft", 4: "mm", 5: "cm", 6: "m", 8: "microinch", 9: "mil", 10: "yard", 13: "micrometre", 14: "decimetre"}
 
 
-def looks_like(data):
-    """Whether bytes begin as a DXF drawing does: the group code 0 and SECTION, behind comments at most."""
-    if data.startswith(BINARY):
-        return True
-    lines = [text.strip() for text in data[:4096].splitlines()[:40]]
-    while lines[:1] == [b"999"]:
-        lines = lines[2:]
-    return lines[:2] == [b"0", b"SECTION"]
-
-
-def read(data, unit=None):
-    """The curves of a drawing's bytes; `unit` is a length in hundredths, in place of what the drawing says."""
+def read(data, wish):
+    """The curves of a drawing's bytes."""
     package("ezdxf")
-    warnings = Warnings()
-    with quiet(warnings):
+    notices, undrawn = Notices(), Undrawn(wish.leave_out)
+    with quiet(notices):
+        file = File(data)
+        for message in file.losses():
+            undrawn.refuse(message)
         try:
-            document = loaded(data)
-            reader = Reader(document, unit if unit is not None else stated(data, document))
+            unit, told_unit = (UNITS[wish.unit], wish.by_option()) if wish.unit else stated(data, file.document)
+            layers = Layers(wish, file.document)
+            layout, entities, choice = chosen(file.document, wish, layers, undrawn)
+            reader = Reader(file, unit, layers)
+            for entity in entities:
+                reader.entity(entity, Above(on_paper=layout != MODEL))
         except Unusable:
             raise
-        except Exception as error:  # ezdxf raises what comes: KeyError, TypeError, its own
+        except Exception as error:  # ezdxf raises what comes
             raise Unusable(f"it is no DXF drawing that can be read: {told(error)}") from error
-    return Drawing(reader.curves, reader.left_out, warnings.said)
-
-
-def told(error):
-    """An exception in one line."""
-    return " ".join(f"{type(error).__name__}: {error}".split())[:200]
-
-
-class Warnings(logging.Handler):
-    """What ezdxf warns of."""
-
-    def __init__(self):
-        super().__init__(logging.WARNING)
-        self.said = []
-
-    def emit(self, record):
-        if len(self.said) < 3:
-            self.said.append("ezdxf warns: " + " ".join(record.getMessage().split())[:200])
-
-
-@contextlib.contextmanager
-def quiet(handler):
-    """Keeps what ezdxf prints and logs off the terminal."""
-    logger = logging.getLogger("ezdxf")
-    passed_on, logger.propagate = logger.propagate, False
-    logger.addHandler(handler)
-    try:
-        with contextlib.redirect_stdout(io.StringIO()), contextlib.redirect_stderr(io.StringIO()):
-            yield
-    finally:
-        logger.removeHandler(handler)
-        logger.propagate = passed_on
-
-
-def loaded(data):
-    if data.startswith(BINARY):
-        from ezdxf.document import Drawing as Document
-        from ezdxf.lldxf.tagger import binary_tags_loader
-
-        return Document.load(binary_tags_loader(data))
-    import ezdxf
-
-    # Only names can have other letters than ASCII, and each must stay the same name.
-    return ezdxf.read(io.StringIO(data.decode("latin-1"), newline=None))
+    for message in notices.lost:
+        undrawn.refuse(f"ezdxf has lost or mended something: {message}")
+    layers.settle(undrawn)
+    reader.groups.settle(undrawn)
+    undrawn.settle()
+    remarks = [*reader.remarks(), *file.remarks(), *notices.remarks()]
+    return Drawing(reader.curves, told_unit, undrawn.counts, remarks, {**choice, **layers.facts()})
 
 
 def stated(data, document):
-    """The unit that a drawing states. For a file without a header ezdxf makes one up, in metres: that counts as none."""
+    """The unit that a drawing states, with words for it. For a file without a header ezdxf makes one up, in metres: that counts as none."""
     code = document.header.get("$INSUNITS", 0) if b"$INSUNITS" in data else 0
     if code not in INSUNITS:
         words = "states no unit" if code == 0 else f"states a unit that is not known here ($INSUNITS {code})"
         raise Unusable(f"it {words}: give --units {'|'.join(UNITS)}")
-    return INSUNITS[code]
+    return INSUNITS[code], f"{INSUNIT_NAMES[code]}, by $INSUNITS {code}"
+
+
+@dataclass(frozen=True)
+class Above:
+    """What an entity stands in: a paper space or not, how many inserts deep, the layer of the last, and whether that is hidden."""
+
+    on_paper: bool = False
+    depth: int = 0
+    layer: str = "0"
+    hidden: bool = False
 
 
 class Reader:
-    """The curves of a document, and the counts of what was left out."""
+    """The curves of a document, and what is drawn beside them."""
 
-    def __init__(self, document, unit):
-        self.scale = unit
-        self.curves, self.left_out = [], Counter()
+    def __init__(self, file, unit, layers):
+        self.file, self.scale, self.layers = file, unit, layers
+        self.curves, self.groups = [], Groups()
         self.entities, self.spline_points = 0, 0
+        self.hidden, self.wide, self.thick = 0, 0, 0
         self.readers = {
             "LINE": self.line,
             "ARC": self.arc,
@@ -128,54 +103,121 @@ class Reader:
             "POLYLINE": self.polyline,
             "SPLINE": self.spline,
         }
-        for entity in document.modelspace():
-            self.entity(entity)
 
-    def entity(self, entity, depth=0):
+    def remarks(self):
+        """What there is to say of what was taken."""
+        for what, count in (
+            ("hidden entities, taken as if they were shown; --not-layer leaves a layer out", self.hidden),
+            ("polylines with a width, of which the centre line is taken", self.wide),
+            ("entities with a thickness along z, of which the plane's part is taken", self.thick),
+        ):
+            if count:
+                yield f"{what}: {count}"
+
+    def entity(self, entity, above):
         self.room_for(1)
+        try:
+            if entity.dxftype() == "INSERT":
+                self.block(entity, above)
+            elif self.is_taken(entity, above):
+                self.taken_entity(entity, above)
+        except Unusable as error:
+            raise error if any(error.place) else Unusable(str(error), self.file.line(entity)) from error
+
+    def is_taken(self, entity, above):
+        """Whether the layer of an entity is taken. Of those that are taken the hidden ones are counted."""
+        layer = self.layer(entity, above)
+        is_taken = self.layers.meet(layer)
+        self.hidden += is_taken and (above.hidden or same(layer) in self.layers.hidden or bool(attribute(entity, "invisible", 0)))
+        return is_taken
+
+    @staticmethod
+    def layer(entity, above):
+        """The layer of an entity: of one on layer 0 in a block it is the insert's."""
+        own = shown(attribute(entity, "layer", "0"))
+        return above.layer if own == "0" else own
+
+    def taken_entity(self, entity, above):
         kind = entity.dxftype()
-        if kind == "INSERT":
-            self.block(entity, depth)
-        elif kind in self.readers:
+        if kind in self.readers:
+            self.thick += bool(attribute(entity, "thickness", 0))
             self.readers[kind](entity)
-        else:
-            self.left_out[kind] += 1
+        elif kind != "VIEWPORT" or above.on_paper and attribute(entity, "id", 0) != 1:  # 1 is the paper itself
+            self.undrawn(kind, entity)
+
+    def undrawn(self, name, entity, count=1):
+        """Entities of one type that make no edge; this one tells where they are."""
+        where = f"{named(entity)} on layer {shown(attribute(entity, 'layer', '0'))!r}"
+        self.groups.add(name, where, (self.file.line(entity), 0), count)
 
     def room_for(self, count):
         self.entities += count
         if self.entities > PARTS_MOST:
             raise Unusable(f"it comes to more than {PARTS_MOST:,} entities")
 
-    def block(self, insert, depth):
-        """The entities of a block, in each place that an insert puts it."""
-        if depth > BLOCKS_DEEP_MOST:
-            raise Unusable(f"{insert}: blocks in blocks go deeper than {BLOCKS_DEEP_MOST}")
-        if insert.block() is None:
-            raise Unusable(f"{insert}: its block {insert.dxf.get('name', '')!r} is missing")
-        self.nested(insert)
-        self.room_for(insert.mcount)
-        places = insert.multi_insert() if insert.mcount > 1 else [insert]
-        for placed in places:
-            skipped = Counter()
-            found = placed.virtual_entities(skipped_entity_callback=lambda entity, _reason, into=skipped: into.update([entity.dxftype()]))
-            for entity in found:
-                self.entity(entity, depth + 1)
-            for kind in skipped:
-                if kind in self.readers or kind == "INSERT":
-                    raise Unusable(f"{insert}: ezdxf cannot place a {kind} of its block")
-            self.left_out.update(skipped)
+    # Blocks.
 
-    def nested(self, insert):
-        """Ends at an insert within a block that ezdxf would put elsewhere: an insert has no shear, nor spacing that is scaled."""
+    def block(self, insert, above):
+        """The entities of a block, in each place that an insert puts it."""
+        if above.depth > BLOCKS_DEEP_MOST:
+            raise Unusable(f"{named(insert)}: blocks in blocks go deeper than {BLOCKS_DEEP_MOST}")
+        if insert.block() is None:
+            raise Unusable(f"{named(insert)}: its block {insert.dxf.get('name', '')!r} is missing")
+        places, layer = max(1, insert.mcount), self.layer(insert, above)
+        self.room_for(places)
+        hidden = above.hidden or same(layer) in self.layers.frozen or bool(insert.dxf.get("invisible", 0))
+        below = Above(above.on_paper, above.depth + 1, layer, hidden)
+        self.undrawn_of(insert, below, places)
+        if insert.block().block.dxf.get("flags", 0) & EXTERNAL:
+            self.external(insert, above)
+            return
+        self.misplaced(insert)
+        for placed in insert.multi_insert() if places > 1 else [insert]:
+            self.placed(insert, placed, below)
+
+    def undrawn_of(self, insert, below, places):
+        """What an insert draws that makes no edge: its attributes, and such entities of its block. ATTDEFs are drawn where they are constant."""
+        for entity in [*insert.attribs, *insert.block()]:
+            kind, flags = entity.dxftype(), attribute(entity, "flags", 0)
+            if kind == "ATTRIB" and flags & INVISIBLE or kind == "ATTDEF" and flags & (INVISIBLE | CONSTANT) != CONSTANT:
+                continue
+            if kind not in self.readers and kind != "INSERT" and self.is_taken(entity, below):
+                self.undrawn(kind, entity, places)
+
+    def external(self, insert, above):
+        """An insert of another file, which is not read."""
+        if self.is_taken(insert, above):
+            block = insert.block().block
+            name = block.dxf.get("xref_path", "") or block.dxf.get("name", "")
+            self.undrawn(f"{REFERENCE} {name!r}", insert)
+
+    def placed(self, insert, placed, below):
+        """The entities of a block at one place. Those that make no edge have been told."""
+        matrix = placed.matrix44()
+        for entity in filter(self.is_read, insert.block()):
+            try:
+                parts = list(moved(entity.copy(), matrix))
+            except Exception as error:  # ezdxf raises what comes
+                raise Unusable(f"{named(insert)}: ezdxf cannot place {named(entity)} of its block: {told(error)}") from error
+            for part in parts:
+                self.entity(part, below)
+
+    def is_read(self, entity):
+        return entity.dxftype() in self.readers or entity.dxftype() == "INSERT"
+
+    def misplaced(self, insert):
+        """Ends at an insert that flattens its block, and at one within a block that ezdxf would put elsewhere: it has no shear, nor scaled spacing."""
         scales = [abs(insert.dxf.get(name, 1.0)) for name in ("xscale", "yscale")]
+        if not all(scales):
+            raise Unusable(f"{named(insert)}: its scale is 0")
         uneven = abs(scales[0] - scales[1]) > 1e-12 * max(scales)
         for inner in insert.block():
             if inner.dxftype() != "INSERT":
                 continue
             if inner.mcount > 1:
-                raise Unusable(f"{insert}: its block has an array of inserts, which is not read within an insert: explode it")
+                raise Unusable(f"{named(insert)}: its block has an array of inserts, which is not read within an insert: explode it")
             if uneven and inner.dxf.get("rotation", 0.0) % 360:
-                raise Unusable(f"{insert}: it is scaled unevenly, and its block has a rotated insert, which is not read so: explode it")
+                raise Unusable(f"{named(insert)}: it is scaled unevenly, and its block has a rotated insert, which is not read so: explode it")
 
     # Points and lengths.
 
@@ -183,7 +225,7 @@ class Reader:
         """A point of the world as x and y in hundredths."""
         number = [Fraction(0) if axis >= len(point) else self.hundredths(point[axis]) for axis in range(3)]
         if number[2]:
-            raise Unusable(f"{entity} is not in the plane z = 0: it has a point at z = {float(number[2]) / 100:g} mm")
+            raise Unusable(f"{named(entity)} is not in the plane z = 0: it has a point at z = {float(number[2]) / 100:g} mm")
         return number[0], number[1]
 
     def hundredths(self, number):
@@ -195,7 +237,7 @@ class Reader:
     def needed(entity, *names):
         for name in names:
             if not entity.dxf.hasattr(name):
-                raise Unusable(f"{entity} has no {name.replace('_', ' ')}")
+                raise Unusable(f"{named(entity)} has no {name.replace('_', ' ')}")
         return [entity.dxf.get(name) for name in names]
 
     @staticmethod
@@ -203,7 +245,7 @@ class Reader:
         """1 for an entity that is drawn seen from above, -1 from below: then its own x goes the other way."""
         x, y, z = entity.dxf.get("extrusion", (0, 0, 1))
         if max(abs(x), abs(y)) > 1e-12 * abs(z) or not z:
-            raise Unusable(f"{entity} is not in the plane z = 0: its extrusion is ({x:g}, {y:g}, {z:g})")
+            raise Unusable(f"{named(entity)} is not in the plane z = 0: its extrusion is ({x:g}, {y:g}, {z:g})")
         return 1 if z > 0 else -1
 
     def own(self, entity, point, side):
@@ -228,7 +270,7 @@ class Reader:
         """A part of a circle, from one angle against the clock to another, in degrees."""
         centre, radius = self.needed(entity, "center", "radius")
         if not (math.isfinite(first) and math.isfinite(last)):
-            raise Unusable(f"{entity} has an angle that is no number")
+            raise Unusable(f"{named(entity)} has an angle that is no number")
         side, size = self.side(entity), float(self.hundredths(abs(radius)))
         # What goes around more than once is whole; so is an arc that ends where it begins.
         sweep = 360.0 if last - first >= 360 else (last - first) % 360 or 360.0
@@ -239,7 +281,7 @@ class Reader:
         centre, major, ratio = self.needed(entity, "center", "major_axis", "ratio")
         first, last = entity.dxf.get("start_param", 0.0), entity.dxf.get("end_param", math.tau)
         if not all(math.isfinite(number) for number in (first, last, ratio)):
-            raise Unusable(f"{entity} has a number that is none")
+            raise Unusable(f"{named(entity)} has a number that is none")
         side = self.side(entity)
         u = floats(self.flat(entity, major))
         v = (-side * ratio * u[1], side * ratio * u[0])
@@ -252,23 +294,31 @@ class Reader:
         self.room_for(len(entity))
         side, height = self.side(entity), entity.dxf.get("elevation", 0)
         corners = [(self.own(entity, (x, y, height), side), bulge) for x, y, bulge in entity.get_points("xyb")]
+        self.wide += entity.has_width
         self.corners(corners, side, entity.closed)
 
     def polyline(self, entity):
         if not (entity.is_2d_polyline or entity.is_3d_polyline):
-            self.left_out[f"POLYLINE ({entity.get_mode()})"] += 1
+            self.undrawn("polyface" if entity.is_poly_face_mesh else "polymesh", entity)
             return
         self.room_for(len(entity.vertices))
         side = self.side(entity) if entity.is_2d_polyline else 1
+        self.flat(entity, entity.dxf.get("elevation", (0, 0, 0)))
         corners = []
         for vertex in entity.vertices:
-            if not vertex.dxf.get("flags", 0) & 16:  # 16 marks the frame of a fitted curve, which is not drawn
+            if not vertex.dxf.get("flags", 0) & FRAME:
                 corners.append((self.own(entity, vertex.dxf.location, side), vertex.dxf.get("bulge", 0)))
+        if entity.vertices and not corners:
+            raise Unusable(f"{named(entity)} has the frame of a fitted curve, and not the curve: explode it in the CAD program")
+        self.wide += entity.has_width
         self.corners(corners, side, entity.is_closed)
 
     def corners(self, corners, side, closed):
-        """The sides of a polyline: a bulge is the tangent of a quarter of the angle that a side's arc sweeps, 0 for a line."""
-        following = corners[1:] + (corners[:1] if closed else [])
+        """The sides of a polyline; one corner alone is a side without length. 
+
+        A bulge is the tangent of a quarter of the angle that a side's arc sweeps, 0 for a line.
+        """
+        following = corners[1:] + (corners[:1] if closed or len(corners) == 1 else [])
         for (start, bulge), (end, _) in zip(corners, following):
             if not math.isfinite(bulge):
                 raise Unusable(f"there is a number in it that is none: {bulge}")
@@ -276,7 +326,7 @@ class Reader:
 
     def spline(self, entity):
         if not entity.control_point_count():
-            raise Unusable(f"{entity} has fit points only, which do not tell the curve between them: have its control points written")
+            raise Unusable(f"{named(entity)} has fit points only, which do not tell the curve between them: have its control points written")
         count, degree = entity.control_point_count(), entity.dxf.degree
         self.spline_points += count * (2 if degree > 3 or len(entity.weights) else 1) if count > degree + 1 else 0
         if self.spline_points > SPLINE_POINTS_MOST:
@@ -285,6 +335,32 @@ class Reader:
         points = tuple(self.flat(entity, point) for point in entity.control_points)
         weights = tuple(map(float, entity.weights)) or (1.0,) * len(points)
         self.curves.append(Spline(entity.dxf.degree, tuple(map(float, entity.knots)), points, weights))
+
+
+def moved(entity, matrix):
+    """A copy of an entity where a matrix takes it. What is round and scaled unevenly becomes ellipses, as a part of a polyline too."""
+    from ezdxf.entities import Ellipse
+    from ezdxf.math.transformtools import NonUniformScalingError
+
+    try:
+        yield entity.transform(matrix)
+    except NonUniformScalingError:
+        if entity.dxftype() in ("ARC", "CIRCLE"):
+            yield Ellipse.from_arc(entity).transform(matrix)
+        else:
+            for part in entity.virtual_entities():
+                yield from moved(part, matrix)
+
+
+def attribute(entity, name, default):
+    """An attribute of an entity, also of one whose type has none such."""
+    return entity.dxf.get(name, default) if entity.dxf.is_supported(name) else default
+
+
+def named(entity):
+    """An entity of the file by its type and handle; one of a block by that of which it is a copy."""
+    handle, source = entity.dxf.get("handle"), entity.source_of_copy
+    return named(source) if not handle and source is not None else f"{entity.dxftype()}(#{handle})"
 
 
 def bulged(start, end, bulge):

@@ -17,6 +17,7 @@ from .pieces import PIECES_MOST, BezierPiece
 
 COORDINATE_MOST = 1_000_000
 REACH_MOST = 1_000_000
+PLATE_MOST = 1 << 20
 
 
 @dataclass(frozen=True)
@@ -60,8 +61,16 @@ def placed(outline, corner=None):
     far = max(abs(number) for edge in edges for number in edge)
     if far > COORDINATE_MOST:
         most = f"{COORDINATE_MOST // 100:,} mm at most can be written"
-        raise Unusable(f"it goes {far / 100:,.2f} mm from the origin, and {most}; --at moves it")
+        raise Unusable(f"it goes {far / 100:,.2f} mm from the origin, and {most}{way_out(outline_box(edges), corner)}")
     return replace(outline, edges=edges)
+
+
+def way_out(box, corner):
+    """What helps an outline that goes too far: moving it, where a plate can hold it."""
+    width, height = box[2] - box[0], box[3] - box[1]
+    if max(width, height) > PLATE_MOST:
+        return f"; it is {width / 100:,.2f} by {height / 100:,.2f} mm, and the largest plate {PLATE_MOST / 100:,.2f} mm wide"
+    return "; --at moves it" if corner is None else "; --at puts it there"
 
 
 def joined(parts):

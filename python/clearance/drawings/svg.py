@@ -1,23 +1,50 @@
-"""Curves of an SVG drawing, which the package svgelements reads.
+"""Curves of an SVG drawing.
 
-The lower left corner of the page (its viewBox) is the origin, and y goes up. All shapes and paths are read by their centre
-lines, whatever their strokes and fillings; what is not displayed (display: none) is not read.
+Its structure and its styles are resolved in svg_structure.py and svg_styles.py; path data are read by the package svgelements. The
+lower left corner of the page (its viewBox) is the origin, and y goes up. All shapes and paths are read by their centre lines,
+whatever their strokes and fillings; what is not displayed is not read.
 """
 
 import contextlib
 import io
 import math
-from collections import Counter
-from dataclasses import dataclass
 from fractions import Fraction
 
-from .curves import FLAT, Arc, Bezier, Unusable, floats, taken
-from .reading import UNITS, Drawing, package
-from .svg_check import PLAIN, Check, exact, scale_of, view_box
+from .curves import FLAT, Arc, Bezier, Findings, Unusable, floats
+from .reading import PARTS_MOST, Drawing, Undrawn, package
+from .svg_check import path_letters
+from .svg_numbers import Fault, numbers
+from .svg_page import page_of
+from .svg_structure import Structure, programs
+from .svg_styles import Styles
+from .svg_tree import Document
+from .svg_units import length
+from .svg_windows import box_of
 
-LEFT_OUT = ("text", "image", "foreignObject", "flowRoot")
+# Kinds of what is drawn and makes no edge, as --leave-out has them, with what each stands for.
+KINDS = {
+    "text": "text",
+    "image": "images",
+    "foreign": "foreignObject",
+    "switch": "<switch> with all in it, and elements that are drawn on conditions",
+    "marker": "markers on paths and lines; the paths and lines are taken",
+    "clip": "clip paths and the borders of inner viewports; what they cut off is taken whole",
+    "mask": "masks; what they hide is taken whole",
+    "filter": "filters; what they change is taken as it is without them",
+    "pattern": "patterns that fill shapes; the shapes are taken",
+    "animation": "animations; what they move is taken as it is without them",
+    "script": "scripts; the drawing is taken as it is without them",
+}
 # svgelements computes the centre of an arc by a root, which near a half turn has half of a double's places.
 ROOT_DOUBT = 2.0**-24
+# Hundredths; farther out no number is kept to its places.
+FAR = 10**12
+# What per cents are of.
+AXES = {
+    **{name: "x" for name in ("x", "x1", "x2", "cx", "rx", "width")},
+    **{name: "y" for name in ("y", "y1", "y2", "cy", "ry", "height")},
+    "r": "r",
+}
 
 
 def looks_like(data):
@@ -26,124 +53,134 @@ def looks_like(data):
     return start.startswith((b"<", b"<\x00"))
 
 
-def read(data, unit=None):
-    """The curves of a drawing's bytes; `unit` is a length in hundredths of one unit of the viewBox, in place of the page's size."""
+def read(data, wish):
+    """The curves of a drawing's bytes."""
     elements = package("svgelements")
-    check = Check().run(data)
-    page = check.page
-    scale = (unit, unit) if unit is not None else scale_of(page)
-    if scale is None:
-        raise Unusable(f"its width and height with a viewBox state no physical size: give --units {'|'.join(UNITS)}")
+    document = Document(data)
+    undrawn = Undrawn(wish.leave_out)
+    undrawn.findings += document.outside
+    styles = Styles(document, undrawn.findings)
     try:
-        with contextlib.redirect_stdout(io.StringIO()), contextlib.redirect_stderr(io.StringIO()):
-            root = elements.SVG.parse(io.BytesIO(data), reify=False, parse_display_none=True)
-        reader = Reader(elements, root, upright(elements, root, page, scale))
-    except Unusable:
-        raise
-    except Exception as error:  # svgelements raises what comes
-        raise Unusable(f"it is no SVG drawing that can be read: {type(error).__name__}: {' '.join(str(error).split())[:200]}") from error
-    if reader.parts != check.parts:
-        raise Unusable(f"svgelements gives {reader.parts} of its {check.parts} lines and curves")
-    return Drawing(reader.curves, reader.left_out, [])
+        page = page_of(document.root, styles.of(document.root), wish)
+    except Fault as error:
+        raise Findings([Unusable(str(error), *document.root.place), *undrawn.findings]) from error
+    for kind, element in programs(document):
+        undrawn.add(kind, f"{element}: it may change what is drawn", element.place)
+    structure = Structure(document, styles, undrawn).run(page.place, page.size)
+    reader = Reader(elements, undrawn, page.border).run(structure.shapes)
+    undrawn.settle()
+    return Drawing(reader.curves, page.unit, undrawn.counts, list(remarks(structure.hidden, reader.off_page)))
 
 
-@dataclass(frozen=True)
-class Affine:
-    """The map x, y to a x + c y + e, b x + d y + f, in fractions."""
-
-    a: Fraction
-    b: Fraction
-    c: Fraction
-    d: Fraction
-    e: Fraction
-    f: Fraction
-
-    @staticmethod
-    def of(matrix):
-        try:
-            return Affine(*(Fraction(number) for number in (matrix.a, matrix.b, matrix.c, matrix.d, matrix.e, matrix.f)))
-        except (ValueError, OverflowError) as error:
-            raise Unusable("there is a number in it that is none") from error
-
-    def after(self, first):
-        """This map behind another one."""
-        a, b = self.turned(first.a, first.b)
-        c, d = self.turned(first.c, first.d)
-        return Affine(a, b, c, d, *self.moved(first.e, first.f))
-
-    def turned(self, x, y):
-        return self.a * x + self.c * y, self.b * x + self.d * y
-
-    def moved(self, x, y):
-        across, up = self.turned(x, y)
-        return across + self.e, up + self.f
-
-
-def upright(elements, root, page, scale):
-    """The map from what svgelements gives, in pixels, to hundredths with y upward: back to the viewBox, and from there on."""
-    view = Affine.of(elements.Matrix(root.viewbox_transform))
-    if view.b or view.c or not view.a or not view.d:
-        raise Unusable("its viewBox cannot be read")
-    back = Affine(1 / view.a, Fraction(0), Fraction(0), 1 / view.d, -view.e / view.a, -view.f / view.d)
-    box = view_box(page)
-    height = PLAIN.fullmatch(page.get("height", ""))
-    left, low = (box[0], box[1] + box[3]) if box else (Fraction(0), exact(height[1]) if height else Fraction(0))
-    across, up = scale
-    return Affine(across, Fraction(0), Fraction(0), -up, -across * left, up * low).after(back)
+def remarks(hidden, off_page):
+    """What is to be said of what is taken."""
+    if hidden:
+        yield f"{hidden} {'shape is' if hidden == 1 else 'shapes are'} not displayed and not taken"
+    if off_page:
+        yield f"{off_page} {'shape reaches' if off_page == 1 else 'shapes reach'} off the page and {'is' if off_page == 1 else 'are'} taken whole"
 
 
 class Reader:
-    """The curves of all shapes, and the counts of what was left out."""
+    """The curves of all shapes."""
 
-    def __init__(self, elements, root, onto):
-        self.elements, self.onto = elements, onto
-        self.curves, self.left_out, self.parts = [], Counter(), 0
-        for element in root.elements():
-            values = getattr(element, "values", None) or {}
-            shown = str(values.get("display", "")).lower() != "none"
-            if isinstance(element, elements.Shape):
-                self.parts += self.parts_of(element)
-                if shown:
-                    self.shape(element)
-            elif shown and str(values.get("tag", "")) in LEFT_OUT:
-                self.left_out[values["tag"]] += 1
+    def __init__(self, elements, undrawn, page):
+        self.elements, self.undrawn, self.page = elements, undrawn, page
+        self.curves, self.paths, self.parts, self.off_page = [], {}, 0, 0
 
-    def parts_of(self, shape):
-        """How many parts a shape has, as the check counts them."""
-        if isinstance(shape, self.elements.Path):
-            return len(shape)
-        return len(shape.points) if isinstance(shape, (self.elements.Polyline, self.elements.Polygon)) else 1
+    def run(self, shapes):
+        for element, where in shapes:
+            try:
+                self.shape(element, where)
+            except Fault as error:
+                self.undrawn.findings.append(Unusable(f"{element}: {error}", *element.place))
+        return self
 
-    def shape(self, shape):
-        self.place = self.onto.after(Affine.of(shape.transform))
-        elements = self.elements
-        if isinstance(shape, (elements.Circle, elements.Ellipse)):
-            self.arc((shape.cx, shape.cy), (shape.rx, 0), (0, shape.ry), 0.0, math.tau)
-        elif isinstance(shape, elements.Rect):
-            self.rect(shape)
-        else:
-            for segment in shape.segments(transformed=False):
-                self.segment(segment)
+    def shape(self, element, where):
+        self.place, self.where = where.place, where
+        first = len(self.curves)
+        getattr(self, element.name)(element)
+        self.parts += len(self.curves) - first
+        if self.parts > PARTS_MOST:
+            raise Unusable(f"it comes to more than {PARTS_MOST:,} lines and curves, the most that are read", *element.place)
+        if len(self.curves) > first:
+            self.check_windows(element, where, self.curves[first:])
 
-    def point(self, point):
-        try:
-            return tuple(taken(number) for number in self.place.moved(Fraction(point[0]), Fraction(point[1])))
-        except (ValueError, OverflowError, TypeError) as error:
-            raise Unusable("there is a number in it that is none") from error
+    def check_windows(self, element, where, curves):
+        """Whether a viewport cuts a shape off, or the page."""
+        box = box_of(curves)
+        for inner, window in where.windows:
+            if not window.holds(curves, box):
+                message = f"{element}: it reaches out of the <{inner.name}> in line {inner.line}, which cuts it off"
+                self.undrawn.add("clip", message, element.place)
+                break
+        if self.page and not self.page.holds(curves, box):
+            self.off_page += 1
 
-    def line(self, *points):
-        self.curves.append(Bezier(tuple(self.point(point) for point in points)))
+    # Shapes.
 
-    def arc(self, centre, u, v, first, sweep, ends=(None, None), doubt=0.0):
-        """An arc by its numbers in the shape's own units."""
-        u, v = (floats(self.place.turned(Fraction(x), Fraction(y))) for x, y in (u, v))
-        start, end = (None if point is None else self.point(point) for point in ends)
-        self.curves.append(Arc(floats(self.point(centre)), u, v, first, sweep, start, end, doubt))
+    def lengths(self, element, *names):
+        """Lengths by their names; what is not stated is 0."""
+        return [length(name, element.get(name, "0"), self.where.size, AXES[name]) for name in names]
 
-    def rect(self, shape):
+    def sizes(self, element, *names):
+        """Lengths that a shape must have, and that are not below 0."""
+        for name in names:
+            if name not in element.attrib:
+                raise Fault(f"it has no {name}")
+        found = self.lengths(element, *names)
+        for name, size in zip(names, found):
+            if size < 0:
+                raise Fault(f"{name} is below 0")
+        return found
+
+    def radii(self, element):
+        """rx and ry; one that is not stated, or auto, is the other."""
+        stated = [name for name in ("rx", "ry") if element.get(name, "auto").strip() != "auto"]
+        found = dict(zip(stated, self.sizes(element, *stated)))
+        both = [found.get(name) for name in ("rx", "ry")]
+        return [side if side is not None else other for side, other in zip(both, reversed(both))]
+
+    def line(self, element):
+        x1, y1, x2, y2 = self.lengths(element, "x1", "y1", "x2", "y2")
+        self.bezier((x1, y1), (x2, y2))
+
+    def circle(self, element):
+        (r,) = self.sizes(element, "r")
+        self.round(element, r, r)
+
+    def ellipse(self, element):
+        rx, ry = self.radii(element)
+        if rx is None:
+            raise Fault("it has no rx and no ry")
+        self.round(element, rx, ry)
+
+    def round(self, element, rx, ry):
+        centre = tuple(self.lengths(element, "cx", "cy"))
+        if rx and ry:
+            self.arc(centre, (rx, 0), (0, ry), 0.0, math.tau)
+
+    def polyline(self, element):
+        text = element.get("points", "")
+        flat = numbers(text)
+        if flat is None or len(flat) % 2:
+            raise Fault(f"its points {text[:40]!r} are no pairs of numbers")
+        points = list(zip(flat[::2], flat[1::2]))
+        for start, end in zip(points, points[1:]):
+            self.bezier(start, end)
+        return points
+
+    def polygon(self, element):
+        points = self.polyline(element)
+        if points and points[0] != points[-1]:
+            self.bezier(points[-1], points[0])
+
+    def rect(self, element):
         """A rectangle; its corners may be rounded, by half of its sides at most."""
-        x, y, width, height = (Fraction(number) for number in (shape.x, shape.y, shape.width, shape.height))
-        rx, ry = min(Fraction(shape.rx or 0), width / 2), min(Fraction(shape.ry or 0), height / 2)
+        width, height = self.sizes(element, "width", "height")
+        x, y = self.lengths(element, "x", "y")
+        rx, ry = (min(radius or Fraction(0), side / 2) for radius, side in zip(self.radii(element), (width, height)))
+        if not width or not height:
+            return
         if not rx or not ry:
             rx = ry = Fraction(0)
         right, top = x + width, y + height
@@ -154,34 +191,82 @@ class Reader:
             ((x, top - ry), (x, y + ry), (x + rx, y + ry)),
         )
         for index, (start, end, centre) in enumerate(sides):
-            self.line(start, end)
+            self.bezier(start, end)
             if rx:
                 ends = end, sides[(index + 1) % 4][0]
                 self.arc(centre, (rx, 0), (0, ry), math.pi / 2 * (index - 1), math.pi / 2, ends)
 
-    def segment(self, segment):
-        """A part of a path."""
+    # Curves.
+
+    def point(self, point):
+        try:
+            found = self.place.moved(point[0], point[1])
+        except (ValueError, OverflowError) as error:
+            raise Fault("there is a number in it that is none") from error
+        if max(map(abs, found)) > FAR:
+            raise Fault(f"it goes more than {FAR // 100:,} mm from the origin")
+        return found
+
+    def bezier(self, *points):
+        self.curves.append(Bezier(tuple(self.point(point) for point in points)))
+
+    def arc(self, centre, u, v, first, sweep, ends=(None, None), doubt=0.0):
+        """An arc by its numbers in the shape's own units."""
+        u, v = (self.place.turned(x, y) for x, y in (u, v))
+        start, end = (None if point is None else self.point(point) for point in ends)
+        self.curves.append(Arc(floats(self.point(centre)), u, v, first, sweep, start, end, doubt))
+
+    # Paths.
+
+    def path(self, element):
+        """A path; of one that is cloned the data are read once."""
+        if element not in self.paths:
+            self.paths[element] = self.segments(element.get("d", ""))
+        before = None
+        for letter, segment in self.paths[element]:
+            before = self.segment(letter, segment, before)
+
+    def segments(self, data):
+        """The commands of path data with what svgelements makes of them."""
+        if data.strip().lower() == "none":
+            return []
+        letters = path_letters(data)
+        if len(letters) > PARTS_MOST:
+            raise Fault(f"it has more than {PARTS_MOST:,} lines and curves, the most that are read")
+        try:
+            with contextlib.redirect_stdout(io.StringIO()), contextlib.redirect_stderr(io.StringIO()):
+                found = list(self.elements.Path(data))
+        except Exception as error:  # svgelements raises what comes
+            raise Fault(f"its path cannot be read: {type(error).__name__}: {' '.join(str(error).split())[:200]}") from error
+        if len(found) != len(letters):
+            raise Fault(f"svgelements gives {len(found)} of its {len(letters)} lines and curves")
+        return list(zip(letters, found))
+
+    def segment(self, letter, segment, before):
+        """A part of a path; returns the kind of curve it is and its last control point, for a smooth one behind it."""
         elements = self.elements
-        if isinstance(segment, elements.Move):
-            return
         if isinstance(segment, elements.Arc):
             self.path_arc(segment)
         elif isinstance(segment, elements.CubicBezier):
-            self.line(segment.start, segment.control1, segment.control2, segment.end)
+            smooth = mirrored(segment.start, before, "C")
+            self.bezier(segment.start, smooth if letter == "S" else segment.control1, segment.control2, segment.end)
+            return "C", segment.control2
         elif isinstance(segment, elements.QuadraticBezier):
-            self.line(segment.start, segment.control, segment.end)
-        elif segment.start is not None and segment.end is not None:
-            if not (isinstance(segment, elements.Close) and tuple(segment.start) == tuple(segment.end)):
-                self.line(segment.start, segment.end)
+            control = mirrored(segment.start, before, "Q") if letter == "T" else segment.control
+            self.bezier(segment.start, control, segment.end)
+            return "Q", control
+        elif letter != "M" and not (letter == "Z" and tuple(segment.start) == tuple(segment.end)):
+            self.bezier(segment.start, segment.end)
+        return None
 
     def path_arc(self, arc):
         """An arc of a path, whose ends are told; its angles are found from them, closer than svgelements has them."""
         centre = tuple(arc.center)
         u, v = (tuple(a - b for a, b in zip(end, centre)) for end in (arc.prx, arc.pry))
         across, up = math.hypot(*u), math.hypot(*v)
-        stretch = Arc((0, 0), *(floats(self.place.turned(*axis)) for axis in ((1, 0), (0, 1))), 0, 0).longest()
+        stretch = Arc((0, 0), *(self.place.turned(*axis) for axis in ((1, 0), (0, 1))), 0, 0).longest()
         if not across or not up:
-            self.line(arc.start, arc.end)
+            self.bezier(arc.start, arc.end)
             return
         straight = stretch * off_chord(math.dist(arc.start, arc.end), across, up)
         # The arc's own doubt, below, may be larger than what the chord is off by.
@@ -195,7 +280,7 @@ class Reader:
         sweep = (last - first) % math.tau
         sweep = sweep if arc.sweep > 0 else sweep - math.tau
         if abs(sweep - arc.sweep) > 1e-6:
-            raise Unusable(f"an arc from {tuple(arc.start)} to {tuple(arc.end)} cannot be read")
+            raise Fault(f"an arc from {tuple(arc.start)} to {tuple(arc.end)} cannot be read")
         own = max(self.off_end(centre, u, v, first, arc.start), self.off_end(centre, u, v, last, arc.end))
         doubt = stretch * (own + ROOT_DOUBT * max(across, up))
         self.arc(centre, u, v, first, sweep, (arc.start, arc.end), doubt)
@@ -209,6 +294,15 @@ class Reader:
     @staticmethod
     def off_end(centre, u, v, angle, end):
         return math.dist(Arc(centre, u, v, 0, 0).point(angle), tuple(end))
+
+
+def mirrored(start, before, kind):
+    """The first control point of a smooth curve: behind one of its kind that one's last, mirrored at the point between them, else that
+    point. svgelements mirrors the last one of another kind too.
+    """
+    if before is None or before[0] != kind:
+        return start
+    return tuple(2 * Fraction(a) - Fraction(b) for a, b in zip(start, before[1]))
 
 
 def off_chord(chord, across, up):
