@@ -8,7 +8,7 @@ from collections import defaultdict
 
 IDENTITY = (1.0, 0.0, 0.0, 1.0, 0.0, 0.0)
 # Curves are followed this close, as a part of the drawing's size; and points are taken so many to the size.
-FLAT, POINTS = 2e-5, 300
+FLAT, POINTS = 5e-5, 200
 POINTS_MOST = 10_000
 
 
@@ -79,10 +79,11 @@ def points_along(lines, size):
     for line in lines:
         yield line[0]
         for a, b in zip(line, line[1:]):
-            parts = math.ceil(math.dist(a, b) / step)
-            # At least the middle: a chord between two corners that are right may be wrong.
-            for part in range(1, max(2, parts)):
-                at = part / max(2, parts)
+            # From half a step on at least the middle: a chord between two corners that are right may be wrong.
+            steps = math.dist(a, b) / step
+            parts = max(math.ceil(steps), 2 if steps > 0.5 else 1)
+            for part in range(1, parts):
+                at = part / parts
                 yield a[0] + at * (b[0] - a[0]), a[1] + at * (b[1] - a[1])
             yield b
 
