@@ -144,8 +144,7 @@ class Maker:
         side, extrusion = self.below()
         pairs = [(2, name), *point_tags(10, place), (41, x), (42, y), (43, 1.0), (50, turn)]
         columns, rows, across, up = 1, 1, 0.0, 0.0
-        # Readers differ on arrays within blocks that are scaled.
-        if not nested and self.rng.random() < 0.2:
+        if self.rng.random() < 0.2:
             columns, rows = self.rng.randint(1, 3), self.rng.randint(1, 3)
             across, up = near(self.rng, span, 1.0), near(self.rng, span, 1.0)
             pairs += [(70, columns), (71, rows), (44, across), (45, up)]
