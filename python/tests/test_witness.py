@@ -38,7 +38,7 @@ class Random(unittest.TestCase):
 
     @needs_svg
     def test_svg(self):
-        self.agree(random_svg.make, 40, 20, "svg")
+        self.agree(random_svg.make, 40, 15, "svg")
 
     @needs_dxf
     def test_dxf(self):
