@@ -100,8 +100,9 @@ def drawn(data, box, unit=None, left_out=()):
         root = Tree.fromstring(data)
     except (Tree.ParseError, ValueError, LookupError) as error:
         raise CannotTell(f"{type(error).__name__}: {error}") from error
-    if root.tag != SPACE + "svg":
-        raise CannotTell("the root is no <svg> in SVG's namespace")
+    if root.tag == "svg":  # no namespace: `from` takes it for SVG's, rsvg-convert does not
+        for element in root.iter():
+            element.tag = SPACE + element.tag if not str(element.tag).startswith("{") else element.tag
     page = Page(root, unit)
     outer, first, scale = wrapped(root, page, box, unit is not None)
     text = CLIP.sub("", strokes(outer, WIDE / scale / page.user, "switch" in left_out))
