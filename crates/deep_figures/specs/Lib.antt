@@ -1,2 +1,4 @@
--- The worked figures of trees that are halved ten times all over, apart from the others, so that no edit of a definition waits for them.
+-- The worked figures of trees that are halved ten times all over, and of maps of many cells, apart from the others, so that no edit of a definition waits
+-- for them.
 pub mod DeepFigures
+pub mod DeepPrints
