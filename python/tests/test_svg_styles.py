@@ -199,7 +199,7 @@ class Cascade(Shown):
     def test_styles_that_take_long(self):
         nested = "<g>" * 90 + LINE + "</g>" * 90
         before = time.process_time()
-        self.finding("too many for its elements", f"<style>{'g ' * 9}rect{{display:none}}</style>{nested * 50}", line=0)
+        self.finding("too many for its elements", f"<style>{'g ' * 9}rect{{display:none}}</style>{nested * 50}")
         self.finding("more than 200,000 letters", f"<style>{'.a{display:inline}' * 20_000}</style>")
         for long in ("a" * 200_000, "a/*" * 60_000, "a " * 90_000):
             self.assertEqual(len(drawing(LINE, f'<g style="{long}"/><style>{long}</style>').curves), 1)

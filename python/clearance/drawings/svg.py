@@ -111,8 +111,8 @@ class Reader:
         box = box_of(curves)
         for inner, window in where.windows:
             if not window.holds(curves, box):
-                message = f"{element}: it reaches out of the <{inner.name}> in line {inner.line}, which cuts it off"
-                self.undrawn.add("clip", message, element.place)
+                cut = f"it reaches out of the <{inner.name}> in line {inner.line}, whose border cuts it off, and that is not read"
+                self.undrawn.add("clip", f"{element}: {cut}", element.place)
                 break
         if self.page and not self.page.holds(curves, box):
             self.off_page += 1

@@ -32,7 +32,7 @@ def path_letters(data):
         letters += [letter] + (["L"] if letter == "M" else [letter]) * (groups - 1)
         steps += len(letters) - begin if letter == "Z" else 0
     if steps > STEPS_MOST:
-        raise Fault("its path is closed too often for what it has")
+        raise Fault("its path goes back to its beginning too often: begin anew with M behind each Z")
     return letters
 
 

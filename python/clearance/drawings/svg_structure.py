@@ -197,7 +197,7 @@ class Structure:
         """What is cut off, masked, filtered or animated."""
         for name, kind in BESIDE.items():
             if name in styles and styles[name].word() not in ("", "none", "initial", "unset", "auto"):
-                self.beside(kind, element, f"its {name} may change what is drawn of it")
+                self.beside(kind, element, f"its {name} may change what is drawn of it, and is not read")
         if any(name in styles and styles[name].word() not in ("none", "initial", "unset") for name in ANIMATING):
             self.beside("animation", element, "its style animates it")
 

@@ -35,8 +35,8 @@ STRUCTURAL = {"root", "not", "is", "where"} | {
 NEVER_NOW = {"hover", "active", "focus", "focus-within", "focus-visible", "target", "visited", "before", "after"}
 FAR_COMBINATOR = re.compile(r"(?<=[\w\])*])\s+(?=[\w.#\[:*])|~(?!=)|-of-type|nth-last|:is|:where|:not")
 SEVERAL = re.compile(r"[\s>+~:]")
-# Tests of a selector on an element, as far as they can be told before. Measured: a million take about a second.
-TESTS_MOST = 2_000_000
+# Tests of a selector on an element, as far as they can be told before. Measured: a million take two seconds or so.
+TESTS_MOST = 1_000_000
 # Elements of originals that are looked at once more as clones.
 WRAPPED_MOST = 200_000
 LETTERS_MOST = 200_000
@@ -101,7 +101,7 @@ class Styles:
             raise Unusable(f"its styles have more than {LETTERS_MOST:,} letters", *sheets[0].place)
         for sheet in sheets:
             self.sheet(sheet, "".join(sheet.texts))
-        self.in_measure(every)
+        self.in_measure(every, sheets)
 
     @staticmethod
     def is_css(element):
@@ -183,7 +183,7 @@ class Styles:
             self.rules += 1
             self.matcher.add_selector(selector, found)
 
-    def in_measure(self, every):
+    def in_measure(self, every, sheets):
         """Ends the reading where matching would take too long: a step between far elements tries all that stand between."""
         if not self.rules:
             return
@@ -192,7 +192,7 @@ class Styles:
             reach = max(reach, *(len(element.children) for element in every))
         tests = sum(reach ** len(FAR_COMBINATOR.findall(part)) for text in self.texts for part in text.split(","))
         if tests * len(every) > TESTS_MOST:
-            raise Unusable("the selectors of its styles are too many for its elements: write styles as attributes")
+            raise Unusable("the selectors of its styles are too many for its elements: write styles as attributes", *sheets[0].place)
 
     # Declarations.
 

@@ -13,7 +13,7 @@ TRANSFORM = re.compile(r"[\s,]*(matrix|translate|scale|rotate|skewX|skewY)\s*\((
 # How many numbers a transform may have.
 TRANSFORM_NUMBERS = {"matrix": (6,), "translate": (1, 2), "scale": (1, 2), "rotate": (1, 3), "skewX": (1,), "skewY": (1,)}
 # More binary places than this are rounded off, to the second number: they come from turns, whose numbers are doubles.
-PLACES_MOST, PLACES_KEPT = 1000, 500
+PLACES_MOST, PLACES_KEPT = 800, 500
 # A transform that makes a point larger than this, or an area smaller, is none that anybody draws.
 GROWTH_MOST = 10**24
 ZERO, ONE = Fraction(0), Fraction(1)
@@ -106,7 +106,9 @@ def one_map(name, values):
         return Affine.of(ONE, tangent(values[0]), ZERO, ONE, ZERO, ZERO)
     cos, sin = turn(values[0])
     turned = Affine.of(cos, sin, -sin, cos, ZERO, ZERO)
-    x, y = values[1:] or (ZERO, ZERO)
+    if not values[1:]:
+        return turned
+    x, y = values[1:]
     return translation(x, y).after(turned).after(translation(-x, -y))
 
 
