@@ -11,14 +11,16 @@ from pathlib import Path
 
 TOP = Path(__file__).resolve().parent.parent
 CLEARMAP = TOP / "target" / "bin" / "clearmap"
+# Where stored maps and stored sheets are.
+MAPS, SHEETS = "differential/stored/maps", "differential/stored/sheets"
 NOT_READ = b"clearmap: the input could not be read to its end\n"
 NOT_WRITTEN = b"clearmap: the answer could not be written\n"
 PATIENCE = 60
 
 
-def stored(crate):
-    """Each case of a crate that runs stored sheets: its name, its sheet, and what the crate's stdout has for it."""
-    folder = TOP / "crates" / crate
+def stored(place):
+    """Each case of a folder of stored sheets: its name, its sheet, and what the folder's stdout has for it."""
+    folder = TOP / place
     names = (folder / "args").read_text().split()
     rest = (folder / "stdout").read_bytes()
     for name, after in zip(names, names[1:] + [None]):
@@ -79,16 +81,19 @@ class Program(unittest.TestCase):
             self.both_ways(name, sheet, answer)
 
     def test_stored_maps(self):
-        """The sheets of the points' cases are among these."""
-        for name, sheet, answer in stored("map_cases"):
+        """The sheets of the other programs' cases are among these."""
+        sheets = {}
+        for name, sheet, answer in stored(MAPS):
             self.both_ways(name, sheet, answer)
-        for name, sheet, _ in stored("point_cases"):
-            self.assertEqual(sheet, (TOP / "crates" / "map_cases" / "data" / name).read_bytes())
+            sheets[name] = sheet
+        for place in "crates/point_cases", "crates/drawing_cases":
+            for name, sheet, _ in stored(place):
+                self.assertEqual(sheet, sheets[name])
 
     def test_stored_sheets(self):
         """A sheet that is refused gets its refusal, any other the answer to the sheet that is written of its job."""
         lengths = set()
-        for name, sheet, written in stored("sheet_cases"):
+        for name, sheet, written in stored(SHEETS):
             lengths.add(len(sheet))
             answer = written if written.startswith(b"(refused ") else run(written).stdout
             self.both_ways(name, sheet, answer)

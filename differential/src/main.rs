@@ -25,6 +25,7 @@ mod run;
 mod sheets;
 mod spoiling;
 mod spots;
+mod stored;
 mod stores;
 mod tally;
 mod ties;
@@ -59,6 +60,7 @@ fn run(options: Options) -> Option<()> {
         (Some(seed), Some(case)) => run.case(seed, case)?,
         (Some(seed), None) => run.pass(seed, u64::MAX, time)?,
         (None, _) => {
+            run.stored()?;
             run.pass(FIXED_SEED, FIXED_CASES, time / 2)?;
             run.check_variety(FIXED_CASES)?;
             run.pass(fresh_seed(), u64::MAX, time)?;

@@ -5,9 +5,9 @@ use std::time::{Duration, SystemTime, UNIX_EPOCH};
 pub const USAGE: &str = "\
 usage: differential [--seconds S] [--seed N [--case K]] [--trace]
 
-Runs the cases of a fixed seed and then those of a fresh one.
+Asks what is stored, then runs the cases of a fixed seed and those of a fresh one.
   --seconds S  stop after about so many seconds, 30 if not given
-  --seed N     run the cases of this seed only
+  --seed N     run the cases of this seed only, and nothing stored
   --case K     run this case only
   --trace      print the number of each case before it runs
 ";

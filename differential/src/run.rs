@@ -3,6 +3,7 @@
 use crate::kinds::{choose, KINDS};
 use crate::options::Options;
 use crate::random::Random;
+use crate::stored;
 use crate::tally::Tally;
 use std::time::{Duration, Instant};
 
@@ -45,6 +46,15 @@ impl Run {
             return None;
         }
         Some(())
+    }
+
+    /// Asks what is stored.
+    pub fn stored(&self) -> Option<()> {
+        let Err(fault) = stored::compare() else {
+            return Some(());
+        };
+        println!("DIFFERENCE: stored\n{fault}");
+        None
     }
 
     /// Runs the cases of a seed from 0 on, so many or until the given time.

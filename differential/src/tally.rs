@@ -2,7 +2,11 @@
 
 use crate::kinds::Ties;
 use crate::ties::{Test, TESTS};
+use clearance_reference::Refusal;
 use std::fmt;
+
+/// The greatest number that a call can give.
+const GREATEST: usize = Refusal::ALL[Refusal::ALL.len() - 1].number() as usize;
 
 /// Counts of one kind of case.
 #[derive(Clone, Copy, Default)]
@@ -10,7 +14,7 @@ pub struct Tally {
     /// Cases run.
     pub cases: u64,
     /// Calls compared, by the number they gave.
-    pub numbers: [u64; 10],
+    pub numbers: [u64; GREATEST + 1],
     /// Ties drawn, by the test.
     ties: [u64; TESTS],
     /// Points whose hi several edges attain, where they are counted.

@@ -25,10 +25,6 @@ which stand beside it. All of them are taken then, as one.
 ALSO = "another sheet or part of the same plate and cell, taken with the first as one outline; may be repeated"
 
 
-def add_also(parser):
-    parser.add_argument("--also", metavar="SHEET", action="append", default=[], help=ALSO)
-
-
 @dataclass(frozen=True)
 class Files:
     """The sheets of one outline as paths and bytes, the name they go by, and what the part says that was given, if one was."""
@@ -179,6 +175,11 @@ def store_numbers(word):
 def add_store(parser, default, help_text):
     """The option that says how much store is lent."""
     parser.add_argument("--store", metavar="NUMBERS", type=store_numbers, default=default, help=f"{help_text} ({default})")
+
+
+def add_also(parser):
+    """The option that takes further sheets."""
+    parser.add_argument("--also", metavar="SHEET", action="append", default=[], help=ALSO)
 
 
 def drawn_of(work, store=library.STORE_MOST):

@@ -102,6 +102,9 @@ SHEETS_MOST = 64
 # 64 names of 255 bytes, each byte written as \udcff, fit.
 BYTES_MOST = 200_000
 MEND = "make the part anew with `clearance from --split`, or with `clearance advise --write` of the sheets"
+BRIEF = 100
+# What the sheets show.
+SHOWN = ("edges", "bounds", "reach_written", "reach_hundredths")
 # What a drawing tells; a part that was made of sheets lacks it.
 SOURCE = ("drawing", "unit", "left_out", "w", "w_hundredths", "reach_asked")
 
@@ -144,9 +147,12 @@ def names(output, count):
     return [f"{stem}-{number}{suffix}" for number in range(1, count + 1)], stem + SUFFIX
 
 
-def told_written(sheet_names, part_name):
-    """What is said when a part is written."""
-    return f"written: {these(sheet_names)}, and {part_name}, which stands for the whole part"
+def told_written(output, count):
+    """What is said when a part of so many sheets is written; a part of more sheets that was there before leaves some behind."""
+    sheet_names, part_name = names(output, count)
+    following = names(output, count + 1)[0][-1]
+    behind = f"; {following} is there from before and is none of its sheets" if os.path.lexists(following) else ""
+    return f"written: {these(sheet_names)}, and {part_name}, which stands for the whole part{behind}"
 
 
 def files(output, jobs, source):
@@ -184,19 +190,25 @@ def read_part(data):
     told = parsed(data)
     if not isinstance(told, dict) or MARK not in told:
         raise BadPart(f'this is no part: it has no "{MARK}"')
-    if told[MARK] != FORMAT:
-        raise BadPart(f'"{MARK}" is {told[MARK]!r}, and parts of format {FORMAT} are read here')
+    if type(told[MARK]) is not int or told[MARK] != FORMAT:
+        raise BadPart(f'"{MARK}" is {brief(told[MARK])}, and parts of format {FORMAT} are read here')
     known = {MARK, "version", "sheets", *SHOWN}
     for name in [*sorted(known - set(told)), *sorted(set(told) - known - set(SOURCE))]:
-        raise BadPart(f'this is no part: "{name}" is {"missing" if name in known else "not known"}')
+        raise BadPart(f"this is no part: {brief(name)} is {'missing' if name in known else 'not known'}")
     for name in ("version", *SOURCE):
         if name in told and not is_right(name, told[name]):
-            raise BadPart(f'this is no part: "{name}" is {told[name]!r}')
+            raise BadPart(f'this is no part: "{name}" is {brief(told[name])}')
     source = {name: told[name] for name in SOURCE if name in told}
     return Listed(listed_sheets(told["sheets"]), {name: told[name] for name in SHOWN}, source)
 
 
-SHOWN = ("edges", "bounds", "reach_written", "reach_hundredths")
+def brief(value):
+    """A value of the file as a message names it: in one line, without control characters, and not too long."""
+    try:
+        text = json.dumps(value)
+    except RecursionError:
+        return "too deep to tell"
+    return text if len(text) <= BRIEF else text[:BRIEF] + "..."
 
 
 def is_right(name, value):
@@ -238,7 +250,7 @@ def listed_sheets(value):
         if not isinstance(sheet, dict) or set(sheet) != {"name", "sha256"} or not all(isinstance(text, str) for text in sheet.values()):
             raise BadPart('this is no part: a sheet has a "name" and a "sha256"')
         if not is_plain(sheet["name"]):
-            raise BadPart(f"{sheet['name']!r} is no plain name of a file: a part's sheets stand beside it")
+            raise BadPart(f"{brief(sheet['name'])} is no plain name of a file: a part's sheets stand beside it")
         if not re.fullmatch("[0-9a-f]{64}", sheet["sha256"]):
             raise BadPart(f'this is no part: "sha256" of {sheet["name"]} has 64 digits of base 16')
         found.append((sheet["name"], sheet["sha256"]))
@@ -248,12 +260,12 @@ def listed_sheets(value):
 
 
 def is_plain(name):
-    """Whether a name is one of a file in the part's own folder; - would be standard input."""
+    """Whether a name is one of a file in the part's own folder, without control characters; - would be standard input."""
     try:
         os.fsencode(name)
     except UnicodeEncodeError:
         return False
-    return name not in ("", ".", "..", "-") and not re.search("[/\0]", name)
+    return name not in ("", ".", "..", "-") and not re.search(r"[/\x00-\x1f\x7f]", name)
 
 
 def sheets_of(path, listed, read):
@@ -278,7 +290,7 @@ def compare(listed, jobs):
         raise BadPart("its sheets are not of one plate, cell and reach")
     for name, value in shown(jobs).items():
         if listed.shown[name] != value:
-            raise BadPart(f'"{name}" is {listed.shown[name]!r}, and its sheets have {value!r}: {MEND}')
+            raise BadPart(f'"{name}" is {brief(listed.shown[name])}, and its sheets have {brief(value)}: {MEND}')
 
 
 # ---- parts beside a sheet

@@ -1,3 +1,3 @@
 """The version that library, header, bindings, module and tool share: docs/VERSIONS.md."""
 
-VERSION = "1.0.0"
+VERSION = "1.1.0"

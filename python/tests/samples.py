@@ -15,7 +15,7 @@ PYTHON = Path(__file__).resolve().parent.parent
 ROOT = PYTHON.parent
 EXAMPLES = sorted((ROOT / "examples").glob("*.sheet"))
 # Sheets of all kinds, right and wrong.
-STORED = sorted(path for crate in ("map_cases", "sheet_cases") for path in (ROOT / "crates" / crate / "data").iterdir())
+STORED = sorted(path for folder in ("maps", "sheets") for path in (ROOT / "differential" / "stored" / folder / "data").iterdir())
 
 SHEET = b"""(job
 (plate -8 -8 4)

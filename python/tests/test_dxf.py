@@ -231,7 +231,8 @@ class Layers(Drawn):
 
     def test_layers_that_no_entity_has(self):
         path = self.text(on("CUT", line(1)), line(2))
-        self.finding(path, "--layer 'CUTS': nothing that is read is on that layer; the layers are '0', 'CUT'", words=("--layer", "CUT", "--layer", "CUTS"))
+        said = "--layer 'CUTS': nothing that is read is on that layer; the layers are '0', 'CUT'"
+        self.finding(path, said, words=("--layer", "CUT", "--layer", "CUTS"))
         self.finding(path, "--not-layer 'DIM': nothing", words=("--not-layer", "DIM"))
 
     def test_layers_of_blocks(self):

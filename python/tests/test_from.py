@@ -603,7 +603,8 @@ class Verb(Case):
         self.assertEqual(ran(path)[0], 2)
         for reach in ("0", "-1", "1/3", "nan", "inf", "x", "1e999999999", "1e-999999999"):
             self.assertEqual(ran(path, "--reach", reach)[0], 2, reach)
-        for words in (("--split",), ("--json",), ("--units", "yd"), ("--leave-out", "lines"), ("--leave-out", ","), ("--within", "0"), ("--within", "0.00001"), ("--within", "11")):
+        wrong = {"--units": ["yd"], "--leave-out": ["lines", ",", "text,lines"], "--within": ["0", "0.00001", "11"]}
+        for words in (("--split",), ("--json",), *((option, word) for option, given in wrong.items() for word in given)):
             self.assertEqual(ran(path, "--reach", "1", *words)[0], 2, words)
 
     def test_without_the_packages(self):

@@ -14,7 +14,7 @@ from clearance import Job, cli, console, library
 
 from .samples import command_bytes as command
 from .samples import run as process
-from .stored import CLEARMAP, TOP, examples, refusal_in, run, stored
+from .stored import CLEARMAP, MAPS, SHEETS, TOP, examples, refusal_in, run, stored
 
 PROGRAM = ["--store", str(library.PROGRAM_STORE)]
 BRACKET = TOP / "examples" / "bracket.sheet"
@@ -23,7 +23,7 @@ BRACKET = TOP / "examples" / "bracket.sheet"
 class Maps(unittest.TestCase):
     def test_stored(self):
         """As much lent as by the program: its text for everything stored."""
-        for name, sheet, answer in [*stored("map_cases"), *examples()]:
+        for name, sheet, answer in [*stored(MAPS), *examples()]:
             with self.subTest(name):
                 status, out, said = command("map", *PROGRAM, "-", stdin=sheet)
                 self.assertEqual(out, answer)
@@ -33,12 +33,12 @@ class Maps(unittest.TestCase):
     def test_beside_the_program(self):
         if not CLEARMAP.exists():
             self.skipTest("clearmap is not built: rt check clearmap")
-        for name, sheet, _ in [*stored("map_cases"), *stored("sheet_cases")]:
+        for name, sheet, _ in [*stored(MAPS), *stored(SHEETS)]:
             with self.subTest(name):
                 self.assertEqual(command("map", *PROGRAM, "-", stdin=sheet)[1], run(sheet).stdout)
 
     def test_no_sheet_lacks_store(self):
-        for name, sheet, answer in stored("map_cases"):
+        for name, sheet, answer in stored(MAPS):
             if refusal_in(answer) == 6:
                 status, out, _ = command("map", "-", stdin=sheet)
                 self.assertEqual((status, out), (0, Job.from_sheet(sheet).map().text()), name)
@@ -147,7 +147,7 @@ class Maps(unittest.TestCase):
         self.assertEqual((done.returncode, done.stderr), (3, b""))
 
     def test_help(self):
-        self.assertEqual(command("--version"), (0, b"clearance 1.0.0\n", ""))
+        self.assertEqual(command("--version"), (0, b"clearance 1.1.0\n", ""))
         for verb in cli.VERBS:
             status, out, _ = command(verb, "--help")
             self.assertEqual(status, 0)

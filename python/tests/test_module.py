@@ -16,7 +16,7 @@ import clearance
 from clearance import Job, Refused, joined, lengths, library
 from clearance.refusals import WORDS
 
-from .stored import TOP, examples, refusal_in, stored
+from .stored import MAPS, SHEETS, TOP, examples, refusal_in, stored
 
 SAMPLE = Job(-8, -8, 4, 1, 4, [(0, 0) * 4], 1)
 
@@ -32,7 +32,7 @@ def refusal(call, *arguments):
 
 class Stored(unittest.TestCase):
     def test_sheets(self):
-        for name, sheet, written in stored("sheet_cases"):
+        for name, sheet, written in stored(SHEETS):
             with self.subTest(name):
                 number = refusal_in(written)
                 self.assertEqual(refusal(Job.from_sheet, sheet), number)
@@ -40,7 +40,7 @@ class Stored(unittest.TestCase):
                     self.assertEqual(Job.from_sheet(sheet).to_sheet(), written)
 
     def test_maps(self):
-        for name, sheet, answer in [*stored("map_cases"), *examples()]:
+        for name, sheet, answer in [*stored(MAPS), *examples()]:
             with self.subTest(name):
                 number = refusal_in(answer)
                 if number in (1, 2, 3, 4):
@@ -58,7 +58,7 @@ class Stored(unittest.TestCase):
 
     def test_points(self):
         """The ten points that each stored job is asked for, with its own store."""
-        for name, sheet, answer in stored("point_cases"):
+        for name, sheet, answer in stored("crates/point_cases"):
             number = refusal(lambda: Job.from_sheet(sheet).map())
             if number:
                 self.assertEqual(refusal_in(answer.splitlines(True)[0]), number, name)

@@ -373,6 +373,9 @@ class Files(Case):
             (lambda told: told.pop(parts.MARK), 'no "clearance_part"'),
             (lambda told: told.update({parts.MARK: 2}), "parts of format 1"),
             (lambda told: told.update({parts.MARK: "1"}), "parts of format 1"),
+            (lambda told: told.update({parts.MARK: True}), "parts of format 1"),
+            (lambda told: told.update({parts.MARK: "x" * 9_000}), 'xxx..., and'),
+            (lambda told: told.update({"\x1b": 1}), '"\\u001b" is not known'),
             (lambda told: told.update(more=1), '"more" is not known'),
             (lambda told: told.pop("version"), '"version" is missing'),
             (lambda told: told.pop("bounds"), '"bounds" is missing'),
@@ -392,7 +395,7 @@ class Files(Case):
             self.assertIn(wanted, self.changed(change))
 
     def test_names_of_files(self):
-        for name in ("", ".", "..", "-", "/etc/passwd", "../F-1.sheet", "a/F-1.sheet", "F-1.sheet\0", "\ud800"):
+        for name in ("", ".", "..", "-", "/etc/passwd", "../F-1.sheet", "a/F-1.sheet", "F-1.sheet\0", "\x1b[2J", "\ud800"):
             self.assertIn("is no plain name of a file", self.changed(lambda told: told["sheets"][0].update(name=name)), name)
 
     def test_what_the_sheets_show(self):
@@ -413,6 +416,7 @@ class Files(Case):
             (b'{"clearance_part": NaN}', "NaN is no number"),
             (b'{"clearance_part": "\xff"}', "no JSON that can be read"),
             (b'{"a":' * 30_000, "no JSON that can be read"),
+            (b'{"clearance_part":' + b"[" * 900 + b"]" * 900 + b"}", "is"),
             (b'{"clearance_part": 1' + b" " * 200_000 + b"}", "more than 200,000 bytes"),
         ]:
             self.assertIn(wanted, self.refused(self.folder.file("F.part", text)))
@@ -515,6 +519,12 @@ class Drawings(Case):
         size = 'width="200mm" height="200mm" viewBox="0 0 200 200"'
         svg = f'<svg xmlns="http://www.w3.org/2000/svg" {size}><polyline points="{corners}"/></svg>'
         return self.folder.file("zigzag.svg", svg.encode())
+
+    @needs_svgelements
+    def test_a_shorter_part_tells_of_what_it_leaves_behind(self):
+        said = [command("from", self.drawing(points), "--reach", "2.5", "--split", "-o", self.top / "F.sheet")[2] for points in (151, 101)]
+        self.assertNotIn("from before", said[0])
+        self.assertIn(f"{self.top / 'F-3.sheet'} is there from before and is none of its sheets", said[1])
 
     @needs_svgelements
     def test_from_writes_the_part(self):

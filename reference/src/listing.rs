@@ -53,5 +53,10 @@ pub fn point_and_reads(lookup: &Lookup) -> String {
 
 /// A refusal.
 pub fn refusal(refusal: Refusal) -> String {
-    format!("(refused {})\n", refusal.number())
+    refused(refusal.number())
+}
+
+/// A refusal by its number.
+pub fn refused(number: u8) -> String {
+    format!("(refused {number})\n")
 }

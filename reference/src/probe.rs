@@ -1,6 +1,6 @@
 //! A fixed battery of questions about one job: points near and far, and stores
-//! that are whole, longer, short or changed. A test program of another
-//! implementation asks the same and is compared with the text.
+//! that are whole, longer, short, changed or of a coarser grain. A test program
+//! of another implementation asks the same and is compared with the text.
 
 use crate::entries::point_with_reads;
 use crate::job::Job;
@@ -22,6 +22,26 @@ pub fn battery(job: &Job) -> String {
     for store in stores(&store) {
         text += &answer(job, SPOT, &store);
     }
+    for store in ends(&store) {
+        text += &answer(job, SPOT, short(&store));
+    }
+    text += &of_finest(job, &store);
+    text += &answer(job, SPOT, &without_boxes(&store));
+    text
+}
+
+/// The answers of the job with the finest grain, of which trees are long that
+/// are not with the job's own: it is given the job's own store, whole, short by
+/// one number, and each with a number changed.
+fn of_finest(job: &Job, store: &[i32]) -> String {
+    let finest = Job {
+        grain: 1,
+        ..job.clone()
+    };
+    let ask = |store: &[i32]| answer(&finest, SPOT, store);
+    let mut text = ask(store) + &ask(short(store));
+    text.extend(ends(store).map(|store| ask(&store)));
+    text.extend(ends(store).map(|store| ask(short(&store))));
     text
 }
 
@@ -44,27 +64,32 @@ pub(crate) fn spots(job: &Job) -> [[i32; 2]; 10] {
 }
 
 /// One number more, one less, none; then each number of the first, the middle
-/// and the last node changed, one at a time; then nodes without their boxes.
-/// Those with a change are made only as they are asked, since each may be large.
+/// and the last node changed, one at a time. Those with a change are made only
+/// as they are asked, since each may be large.
 fn stores(store: &[i32]) -> impl Iterator<Item = Vec<i32>> + '_ {
     let nodes = store.len() / NUMBERS_A_NODE;
     let numbers = [0, nodes / 2, nodes.saturating_sub(1)]
         .into_iter()
         .flat_map(|node| (0..NUMBERS_A_NODE).map(move |place| NUMBERS_A_NODE * node + place));
     let changes = numbers.map(|index| changed(store, index));
-    lengths(store)
+    lengths(store).into_iter().chain(changes)
+}
+
+/// The first, the middle and the last number changed, one at a time.
+fn ends(store: &[i32]) -> impl Iterator<Item = Vec<i32>> + '_ {
+    [0, store.len() / 2, store.len().saturating_sub(1)]
         .into_iter()
-        .chain(changes)
-        .chain([without_boxes(store)])
+        .map(|index| changed(store, index))
+}
+
+/// The store without its last number.
+fn short(store: &[i32]) -> &[i32] {
+    &store[..store.len().saturating_sub(1)]
 }
 
 /// The store with one number more, with one less, and none of it.
 pub(crate) fn lengths(store: &[i32]) -> [Vec<i32>; 3] {
-    [
-        [store, &[0]].concat(),
-        store[..store.len().saturating_sub(1)].to_vec(),
-        Vec::new(),
-    ]
+    [[store, &[0]].concat(), short(store).to_vec(), Vec::new()]
 }
 
 /// The store with one number raised by 1; the empty store as it is. The numbers

@@ -1,7 +1,6 @@
 //! A second fixed battery of questions about one job, rows of spots: alone and
-//! together, rows that are no sheaf, and a reply or store that does not suit. A
-//! test program of another implementation asks the same and is compared with the
-//! text.
+//! together, rows that are no sheaf, and a reply or store that does not suit.
+//! Another implementation is asked the same, and is compared with the text.
 
 use crate::entries::{points, reply_length};
 use crate::job::Job;
@@ -17,17 +16,37 @@ const IN_RANGE: usize = 8;
 /// A reply that is one number short for two spots.
 const SHORT_REPLY: usize = 5;
 
-/// The answers: first of the job's own store, then of others.
+/// The answers.
 pub fn battery(job: &Job) -> String {
-    let store = own_store(job);
+    let ask = |spots: &[i32], store: &[i32], reply: &mut [i64]| {
+        points(job, spots, store, reply).map_or_else(Refusal::number, |()| 0)
+    };
+    battery_of(job, &own_store(job), ask)
+}
+
+/// The answers of any implementation: first of the job's own store, then of
+/// others. What asks is lent a row of spots, a store and a reply, and gives the
+/// number of the refusal, or 0.
+pub fn battery_of(
+    job: &Job,
+    store: &[i32],
+    ask: impl Fn(&[i32], &[i32], &mut [i64]) -> u8,
+) -> String {
+    let answer = |row: &[i32], store: &[i32], length| {
+        let mut reply = vec![BEFORE; length];
+        match ask(row, store, &mut reply) {
+            0 => accepted(&reply, reply_length(row)),
+            number => refused(number, &reply),
+        }
+    };
     let twice = [SPOT; 2].concat();
     let mut text = String::new();
     for row in rows(job) {
-        text += &answer(job, &row, &store, longer_reply(&row));
+        text += &answer(&row, store, longer_reply(&row));
     }
-    text += &answer(job, &twice, &store, SHORT_REPLY);
-    for store in stores(&store) {
-        text += &answer(job, &twice, &store, longer_reply(&twice));
+    text += &answer(&twice, store, SHORT_REPLY);
+    for store in stores(store) {
+        text += &answer(&twice, &store, longer_reply(&twice));
     }
     text
 }
@@ -74,14 +93,6 @@ fn stores(store: &[i32]) -> impl Iterator<Item = Vec<i32>> {
     lengths(store).into_iter().chain([changed(store, last)])
 }
 
-fn answer(job: &Job, row: &[i32], store: &[i32], length: usize) -> String {
-    let mut reply = vec![BEFORE; length];
-    match points(job, row, store, &mut reply) {
-        Ok(()) => accepted(&reply, reply_length(row)),
-        Err(refusal) => refused(refusal, &reply),
-    }
-}
-
 /// A line a spot, but where the spots go around and the reply with them; and the
 /// first number behind the reply.
 fn accepted(reply: &[i64], written: usize) -> String {
@@ -96,14 +107,14 @@ fn accepted(reply: &[i64], written: usize) -> String {
 }
 
 /// The refusal, and how many numbers of the reply were written nevertheless.
-fn refused(refusal: Refusal, reply: &[i64]) -> String {
+fn refused(number: u8, reply: &[i64]) -> String {
     let changed = reply.iter().filter(|&&number| number != BEFORE).count();
-    format!("{}(changed {changed})\n", listing::refusal(refusal))
+    format!("{}(changed {changed})\n", listing::refused(number))
 }
 
 #[cfg(test)]
 mod tests {
-    use super::{accepted, listing, refused, Refusal};
+    use super::{accepted, listing, refused};
 
     /// Only a reply that does not go around with its spots has a line of its own.
     #[test]
@@ -124,7 +135,7 @@ mod tests {
 
     #[test]
     fn numbers_written_in_spite_of_a_refusal() {
-        let line = refused(Refusal::Sheaf, &[7, 6_400, 7, 0, -7]);
+        let line = refused(9, &[7, 6_400, 7, 0, -7]);
         assert_eq!(line, "(refused 9)\n(changed 3)\n");
     }
 }

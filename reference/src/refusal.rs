@@ -1,72 +1,57 @@
-//! The nine refusals of RULES, "Refusals".
+//! The refusals of RULES, "Refusals".
 
 use std::fmt;
 
-/// Why a call was refused.
-#[derive(Clone, Copy, Debug, PartialEq, Eq, PartialOrd, Ord, Hash)]
-pub enum Refusal {
-    /// 1: the bytes are no job sheet.
-    Form,
-    /// 2: too few or too many edges.
-    Edges,
-    /// 3: some number is out of its range.
-    Range,
-    /// 4: the smallest cell does not suit the plate.
-    Cell,
-    /// 5: the deepest piece of some edge is still too long for the grain.
-    Long,
-    /// 6: the lent store is too small for the trees.
-    Store,
-    /// 7: the lent map, sheet or reply is too small.
-    Space,
-    /// 8: the lent store holds other trees.
-    Stranger,
-    /// 9: no spots, too many, or a spot without its second number.
-    Sheaf,
+/// Makes the enum, [`Refusal::ALL`] and [`Refusal::word`] of one list, so that a
+/// further refusal is one entry of it.
+macro_rules! refusals {
+    ($($(#[$doc:meta])+ $name:ident = $number:literal, $word:literal;)+) => {
+        /// Why a call was refused.
+        #[repr(u8)]
+        #[derive(Clone, Copy, Debug, PartialEq, Eq, PartialOrd, Ord, Hash)]
+        pub enum Refusal {
+            $($(#[$doc])+ $name = $number,)+
+        }
+
+        impl Refusal {
+            /// All of them, in the order of their numbers.
+            pub const ALL: &'static [Refusal] = &[$(Refusal::$name),+];
+
+            /// Its word.
+            pub fn word(self) -> &'static str {
+                match self {
+                    $(Refusal::$name => $word,)+
+                }
+            }
+        }
+    };
+}
+
+refusals! {
+    /// The bytes are no job sheet.
+    Form = 1, "form";
+    /// Too few or too many edges.
+    Edges = 2, "edges";
+    /// Some number is out of its range.
+    Range = 3, "range";
+    /// The smallest cell does not suit the plate.
+    Cell = 4, "cell";
+    /// The deepest piece of some edge is still too long for the grain.
+    Long = 5, "long";
+    /// The lent store is too small for the trees.
+    Store = 6, "store";
+    /// The lent map, sheet or reply is too small.
+    Space = 7, "space";
+    /// The lent store holds other trees.
+    Stranger = 8, "stranger";
+    /// No spots, too many, or a spot without its second number.
+    Sheaf = 9, "sheaf";
 }
 
 impl Refusal {
-    /// All of them, in the order of their numbers.
-    pub const ALL: [Refusal; 9] = [
-        Refusal::Form,
-        Refusal::Edges,
-        Refusal::Range,
-        Refusal::Cell,
-        Refusal::Long,
-        Refusal::Store,
-        Refusal::Space,
-        Refusal::Stranger,
-        Refusal::Sheaf,
-    ];
-
     /// Its number.
-    pub fn number(self) -> u8 {
-        match self {
-            Refusal::Form => 1,
-            Refusal::Edges => 2,
-            Refusal::Range => 3,
-            Refusal::Cell => 4,
-            Refusal::Long => 5,
-            Refusal::Store => 6,
-            Refusal::Space => 7,
-            Refusal::Stranger => 8,
-            Refusal::Sheaf => 9,
-        }
-    }
-
-    /// Its word.
-    pub fn word(self) -> &'static str {
-        match self {
-            Refusal::Form => "form",
-            Refusal::Edges => "edges",
-            Refusal::Range => "range",
-            Refusal::Cell => "cell",
-            Refusal::Long => "long",
-            Refusal::Store => "store",
-            Refusal::Space => "space",
-            Refusal::Stranger => "stranger",
-            Refusal::Sheaf => "sheaf",
-        }
+    pub const fn number(self) -> u8 {
+        self as u8
     }
 }
 

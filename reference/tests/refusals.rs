@@ -58,7 +58,7 @@ fn numbers_and_words() {
         "form", "edges", "range", "cell", "long", "store", "space", "stranger", "sheaf",
     ];
     assert_eq!(Refusal::ALL.len(), words.len());
-    for (index, refusal) in Refusal::ALL.into_iter().enumerate() {
+    for (index, refusal) in Refusal::ALL.iter().enumerate() {
         assert_eq!(usize::from(refusal.number()), index + 1);
         assert_eq!(refusal.word(), words[index]);
     }

@@ -1,6 +1,6 @@
 #!/usr/bin/env python3
-"""Writes the stored jobs of the test programs map_cases, drawing_cases, point_cases and many_point_cases, a file a case, and the lists of
-their names."""
+"""Writes the stored jobs of differential/stored and of the test programs drawing_cases and point_cases, a file a case, and the lists of their
+names."""
 
 import pathlib
 import random
@@ -258,8 +258,8 @@ def by_rows():
     case("rows_deepest_at_one_end", 8000, -512, 10, 4, 42, 14, [cubic([0, 0, 0, 9000], [0] * 4)])
 
 
-def store(crate, names):
-    data = TOP / "crates" / crate / "data"
+def store(folder, names):
+    data = TOP / folder / "data"
     data.mkdir(parents=True, exist_ok=True)
     for old in data.iterdir():
         old.unlink()
@@ -284,10 +284,10 @@ def main():
         cases["example_" + path.stem] = path.read_text()
     # With a finer grain its trees do not fit the lent store.
     cases["example_screen_fine"] = cases["example_screen"].replace("(grain 100)", "(grain 60)")
-    store("map_cases", list(cases))
-    store("drawing_cases", list(cases))
-    store("point_cases", for_points + ["example_bracket", "example_washer"])
-    store("many_point_cases", FOR_MANY_POINTS)
+    store("differential/stored/maps", list(cases))
+    store("crates/drawing_cases", list(cases))
+    store("crates/point_cases", for_points + ["example_bracket", "example_washer"])
+    store("differential/stored/points", FOR_MANY_POINTS)
 
 
 main()

@@ -1,9 +1,9 @@
 #!/usr/bin/env python3
-"""Writes the stored sheets of the test program sheet_cases, a file a case, and the list of their names."""
+"""Writes the stored sheets of differential/stored, a file a case, and the list of their names."""
 
 import pathlib
 
-CRATE = pathlib.Path(__file__).resolve().parents[2] / "crates" / "sheet_cases"
+FOLDER = pathlib.Path(__file__).resolve().parents[2] / "differential" / "stored" / "sheets"
 
 JOB = "(job\n"
 PLATE = "(plate -8 -8 4)\n"
@@ -196,13 +196,13 @@ def straight():
 def main():
     for group in (accepted, counts, sizes, broken_lines, broken_spaces, broken_numbers, ranges, cells, straight):
         group()
-    data = CRATE / "data"
+    data = FOLDER / "data"
     data.mkdir(parents=True, exist_ok=True)
     for old in data.iterdir():
         old.unlink()
     for name, text in cases.items():
         (data / name).write_bytes(text)
-    (CRATE / "args").write_text("".join(name + "\n" for name in cases))
+    (FOLDER / "args").write_text("".join(name + "\n" for name in cases))
 
 
 main()

@@ -3,78 +3,72 @@
 use std::error::Error;
 use std::fmt;
 
-/// Why a call was refused. Of several reasons the one with the lowest number is
-/// given; [`points`](crate::points) alone goes by an order of its own.
-///
-/// ```
-/// use clearance::{read, Refusal};
-///
-/// let refusal = read(b"(job\n)\n").unwrap_err();
-/// assert_eq!(refusal, Refusal::Form);
-/// assert_eq!((refusal.number(), refusal.word()), (1, "form"));
-/// assert_eq!(refusal.to_string(), "refused 1 (form)");
-/// ```
-// A later minor version may bring a further refusal.
-#[repr(u8)]
-#[non_exhaustive]
-#[derive(Clone, Copy, Debug, PartialEq, Eq, PartialOrd, Ord, Hash)]
-pub enum Refusal {
+/// Makes the enum, [`Refusal::ALL`] and [`Refusal::word`] of one list, so that a
+/// further refusal is one entry of it.
+macro_rules! refusals {
+    ($($(#[$doc:meta])+ $name:ident = $number:literal, $word:literal;)+) => {
+        /// Why a call was refused. Of several reasons the one with the lowest number is
+        /// given; [`points`](crate::points) alone goes by an order of its own.
+        ///
+        /// ```
+        /// use clearance::{read, Refusal};
+        ///
+        /// let refusal = read(b"(job\n)\n").unwrap_err();
+        /// assert_eq!(refusal, Refusal::Form);
+        /// assert_eq!((refusal.number(), refusal.word()), (1, "form"));
+        /// assert_eq!(refusal.to_string(), "refused 1 (form)");
+        /// ```
+        // A later minor version may bring a further refusal.
+        #[repr(u8)]
+        #[non_exhaustive]
+        #[derive(Clone, Copy, Debug, PartialEq, Eq, PartialOrd, Ord, Hash)]
+        pub enum Refusal {
+            $($(#[$doc])+ $name = $number,)+
+        }
+
+        impl Refusal {
+            /// All of them, in the order of their numbers.
+            pub const ALL: &'static [Refusal] = &[$(Refusal::$name),+];
+
+            /// Its word.
+            pub fn word(self) -> &'static str {
+                match self {
+                    $(Refusal::$name => $word,)+
+                }
+            }
+        }
+    };
+}
+
+refusals! {
     /// The bytes are no job sheet.
-    Form = 1,
+    Form = 1, "form";
     /// There are no edges, or more than 64.
-    Edges = 2,
+    Edges = 2, "edges";
     /// A number is out of its range, an edge's mark is no kind's, one of a
     /// line's last four numbers is not 0, or a place or a mark past the edges is
     /// not zeros.
-    Range = 3,
+    Range = 3, "range";
     /// The smallest cell is larger than the plate, or less than a 256th of it.
-    Cell = 4,
+    Cell = 4, "cell";
     /// An edge is too long for the grain, even after ten halvings.
-    Long = 5,
+    Long = 5, "long";
     /// The lent store is too short for the trees.
-    Store = 6,
+    Store = 6, "store";
     /// The lent map or sheet is too short, or the reply of the C function for
     /// several points.
-    Space = 7,
+    Space = 7, "space";
     /// The store does not begin with the trees of the job.
-    Stranger = 8,
+    Stranger = 8, "stranger";
     /// The row of spots is empty, or longer than 256 of them; for the C function,
     /// also where its last point lacks its y.
-    Sheaf = 9,
+    Sheaf = 9, "sheaf";
 }
 
 impl Refusal {
-    /// All of them, in the order of their numbers.
-    pub const ALL: &'static [Refusal] = &[
-        Refusal::Form,
-        Refusal::Edges,
-        Refusal::Range,
-        Refusal::Cell,
-        Refusal::Long,
-        Refusal::Store,
-        Refusal::Space,
-        Refusal::Stranger,
-        Refusal::Sheaf,
-    ];
-
-    /// Its number, 1 to 9.
+    /// Its number.
     pub fn number(self) -> u8 {
         self as u8
-    }
-
-    /// Its word.
-    pub fn word(self) -> &'static str {
-        match self {
-            Refusal::Form => "form",
-            Refusal::Edges => "edges",
-            Refusal::Range => "range",
-            Refusal::Cell => "cell",
-            Refusal::Long => "long",
-            Refusal::Store => "store",
-            Refusal::Space => "space",
-            Refusal::Stranger => "stranger",
-            Refusal::Sheaf => "sheaf",
-        }
     }
 
     /// What the number returned by a C function says.
@@ -83,7 +77,7 @@ impl Refusal {
             return Ok(());
         }
         let refusal = Refusal::ALL.iter().copied().find(|r| r.number() == number);
-        Err(refusal.expect("the library refuses with 1 to 9 only"))
+        Err(refusal.expect("the library refuses with these numbers only"))
     }
 }
 

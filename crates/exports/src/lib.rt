@@ -12,8 +12,8 @@ ghost use Rattle.flat_jobs.specs.FlatJobs.{jobFrom};
 ghost use Rattle.exports.specs.Rows.{readLeaves, bytesLeft, nodesLeft, loIn, hiIn, numbersLeft};
 ghost use Rattle.exports.specs.Versions.{versionNumber};
 
-// Numbers a job, numbers a node, and the version: 583, 11 and 1.0.0.
-const VERSION: u64 = 58_311_001_000_000;
+// Numbers a job, numbers a node, and the version: 583, 11 and 1.1.0.
+const VERSION: u64 = 58_311_001_001_000;
 
 // Tells which library this is: the length of a job's row, that of a node, and the version, one behind the other in decimal.
 #[no_mangle]

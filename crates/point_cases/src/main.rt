@@ -1,6 +1,6 @@
 // Asks a fixed row of questions of each stored sheet's job, a line for each answer: ten points given the job's own store, and one point given
-// stores that are longer, shorter, changed in one number or without boxes. Beside the bounds it shows how many nodes a lookup of that point reads, by
-// a second lookup that tells. The second implementation asks the same.
+// stores that are longer, shorter, changed in one number, both, or without boxes, and the store of a coarser job. Beside the bounds it shows how many
+// nodes a lookup of that point reads, by a second lookup that tells. The second implementation asks the same.
 use libc::STDOUT_FILENO;
 use model::Job;
 use model::Nearest;
@@ -61,6 +61,25 @@ fn ask_changed(job: Job, store: &mut [i32], need: usize, at: usize) {
     }
 }
 
+// The answers with the first, the middle and the last of the job's numbers changed in turn, given the first n of them.
+fn ask_ends(job: Job, store: &mut [i32], need: usize, n: usize) {
+    ask_changed(job, store, n, 0);
+    ask_changed(job, store, n, need / 2);
+    ask_changed(job, store, n, case_files::one_less(need));
+}
+
+// The answers of the job with the finest grain, of which trees are long that are not with the job's own: it is given the job's own store, whole,
+// short by one number, and each with a number changed.
+fn ask_finest(job: Job, store: &mut [i32], need: usize) {
+    let mut finest = job;
+    finest.grain = 1;
+    let short = case_files::one_less(need);
+    ask(finest, 3, 4, store, need);
+    ask(finest, 3, 4, store, short);
+    ask_ends(finest, store, need, need);
+    ask_ends(finest, store, need, short);
+}
+
 // The answers with each number of a node changed in turn.
 fn ask_node(job: Job, store: &mut [i32], need: usize, node: usize)
     requires few { ⌜ node ≤ 4096 ⌝ }
@@ -104,7 +123,8 @@ fn ask_packed(job: Job, store: &mut [i32], nodes: usize)
     ask(job, 3, 4, store, LEAST * nodes);
 }
 
-// Stores of one number more, one less and none; with each number of the first, the middle and the last node changed; and without boxes.
+// Stores of one number more, one less and none; with each number of the first, the middle and the last node changed; one number less and one
+// changed; of the job with the finest grain; and without boxes.
 fn ask_stores(job: Job, store: &mut [i32], nodes: usize)
     requires few { ⌜ nodes ≤ 4096 ⌝ }
 {
@@ -115,6 +135,8 @@ fn ask_stores(job: Job, store: &mut [i32], nodes: usize)
     ask_node(job, store, need, 0);
     ask_node(job, store, need, nodes / 2);
     ask_node(job, store, need, case_files::one_less(nodes));
+    ask_ends(job, store, need, case_files::one_less(need));
+    ask_finest(job, store, need);
     ask_packed(job, store, nodes);
 }
 

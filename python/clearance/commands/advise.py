@@ -82,7 +82,7 @@ def write_part(output, given, jobs):
     if len(jobs) > parts.SHEETS_MOST:
         raise console.found(f"{given.name}: {len(jobs)} sheets are given, and a part has {parts.SHEETS_MOST} at most")
     console.write_all(parts.files(output, jobs, given.part.source if given.part else {}))
-    console.say(f"{given.name}: {parts.told_written(*parts.names(output, len(jobs)))}")
+    console.say(f"{given.name}: {parts.told_written(output, len(jobs))}")
 
 
 def tell(asked, given, now, then):

@@ -2,6 +2,7 @@
 
 import argparse
 import os
+import textwrap
 from dataclasses import replace
 from decimal import Decimal, InvalidOperation
 from fractions import Fraction
@@ -19,7 +20,8 @@ from ..lengths import millimetres, plain, root_up
 
 
 def kinds_text(kinds_of):
-    return "; ".join(f"{kind} ({meaning})" for kind, meaning in kinds_of.items())
+    """Kinds with what they stand for, in lines that stand under others."""
+    return textwrap.fill("; ".join(f"{kind} ({meaning})" for kind, meaning in kinds_of.items()), 120, break_on_hyphens=False)
 
 
 SUMMARY = "make a job sheet from a DXF or an SVG drawing"
@@ -41,16 +43,22 @@ Then, and where a layout or layers are chosen, W is said of what was taken.
 DXF, read by the package ezdxf: the model space, or the layout that --layout names; LINE, LWPOLYLINE, POLYLINE, ARC, CIRCLE,
 ELLIPSE, SPLINE and INSERT, all in the plane z = 0, on all layers, hidden ones too, or on those that --layer names; of polylines
 with a width the centre lines. An entity on layer 0 of a block is on its insert's layer. A POINT has no length: it is left out,
-and counted. What ezdxf had to mend is a finding. SVG, read by the package svgelements: all shapes and paths, by their
-centre lines, y upward from the lower left corner of the viewBox. Text is left out: convert it to paths. Files have
-{BYTES_MOST:,} bytes at most.
+and counted. What ezdxf had to mend is a finding.
 
-Kinds that --leave-out takes, of a DXF drawing: {kinds_text(dxf.KINDS)}.
+SVG: all shapes and paths that are displayed, by their centre lines, clones and inner viewports in their places, y upward from
+the lower left corner of the viewBox. The package svgelements reads path data, tinycss2 and cssselect2 read stylesheets.
+
+Files have {BYTES_MOST:,} bytes at most.
+
+Kinds that --leave-out takes of a DXF drawing:
+{kinds_text(dxf.KINDS)}.
+Of an SVG drawing: {kinds_text(svg.KINDS)}.
 """
 EXAMPLES = """\
   clearance from examples/drawings/bracket.dxf --reach 2.5 -o bracket.sheet
   clearance from examples/drawings/flange.svg --reach 2.5 --split -o flange.sheet
   clearance from part.dxf --units in --reach 1.5 > part.sheet
+  clearance from part.dxf --reach 1.5 --layer CUT --leave-out text,point -o part.sheet
   clearance from part.dxf --reach 1.5 --plate 0 0 300 --at 180 12.5 -o part.sheet
 """
 PLATE = "the plate: its lower left corner, and a side that it has at least, in millimetres (the smallest around the part)"
@@ -59,7 +67,9 @@ SPLIT = """\
 write FILE-1.sheet, FILE-2.sheet ... of up to 64 edges each, on one plate, and FILE.part, which stands for the whole part; also \
 where one sheet is enough
 """
-LEAVE_OUT = "kinds of what is drawn to leave out, as text,hatch"
+LEAVE_OUT = "kinds of what is drawn to leave out, with commas between them, as text,hatch; may be repeated"
+LAYER = "of a DXF drawing this layer alone, its name in any case; may be repeated"
+NOT_LAYER = "of a DXF drawing all but this layer; may be repeated"
 KINDS = {**dxf.KINDS, **svg.KINDS}
 WITHIN = Fraction(1, 10_000), Fraction(10)
 # So many findings are told one by one.
@@ -110,10 +120,10 @@ def arguments(parser):
     parser.add_argument("drawing", metavar="DRAWING", help="a DXF or an SVG file")
     parser.add_argument("--reach", metavar="MM", type=length, required=True, help="the jet's reach in millimetres")
     parser.add_argument("--units", choices=UNITS, help="the unit of the drawing's numbers, whatever the drawing says")
-    parser.add_argument("--leave-out", metavar="KIND,…", type=kinds, action="append", default=[], help=LEAVE_OUT)
+    parser.add_argument("--leave-out", metavar="KINDS", type=kinds, action="append", default=[], help=LEAVE_OUT)
     parser.add_argument("--layout", metavar="NAME", help="of a DXF drawing this layout in place of its model space")
-    parser.add_argument("--layer", metavar="NAME", action="append", default=[], help="of a DXF drawing this layer alone; may be repeated")
-    parser.add_argument("--not-layer", metavar="NAME", action="append", default=[], help="of a DXF drawing all but this layer; may be repeated")
+    parser.add_argument("--layer", metavar="NAME", action="append", default=[], help=LAYER)
+    parser.add_argument("--not-layer", metavar="NAME", action="append", default=[], help=NOT_LAYER)
     parser.add_argument(
         "--within", metavar="MM", type=closeness, default=Fraction(1, 100), help="how close cubics stay to arcs and splines (0.01)"
     )
@@ -152,7 +162,8 @@ def run(asked):
     off = off_plate(replace(jobs[0], edges=outline.edges))
     facts["warnings"] = [off[2]] if off else []
     console.write_all(parts.files(asked.output, jobs, facts) if asked.split else [(asked.output, jobs[0].to_sheet())])
-    for sentence in sentences(facts):
+    written = [parts.told_written(asked.output, len(jobs))] if asked.split else []
+    for sentence in (*sentences(facts), *written):
         console.say(f"{asked.drawing}: {sentence}")
     if asked.json:
         console.put_json(facts)
@@ -286,5 +297,3 @@ def sentences(facts):
     yield f"W is {facts['w_hundredths']} hundredths ({facts['w']} mm): no point {drawn} or of the outline is farther from the other"
     yield f"reach: {facts['reach_hundredths']} hundredths, {facts['reach_asked']} mm and W rounded up"
     yield from (f"warning: {warning}" for warning in facts["warnings"])
-    if facts["part"]:
-        yield parts.told_written(files, facts["part"])

@@ -176,12 +176,15 @@ class Reader:
             self.placed(insert, placed, below)
 
     def undrawn_of(self, insert, below, places):
-        """What an insert draws that makes no edge: its attributes, and such entities of its block. ATTDEFs are drawn where they are constant."""
+        """What an insert draws that makes no edge: its attributes, and such entities of its block; ATTDEFs only where they are constant."""
         for entity in [*insert.attribs, *insert.block()]:
+            if self.is_read(entity):
+                continue
+            self.room_for(places)
             kind, flags = entity.dxftype(), attribute(entity, "flags", 0)
             if kind == "ATTRIB" and flags & INVISIBLE or kind == "ATTDEF" and flags & (INVISIBLE | CONSTANT) != CONSTANT:
                 continue
-            if kind not in self.readers and kind != "INSERT" and self.is_taken(entity, below):
+            if self.is_taken(entity, below):
                 self.undrawn(kind, entity, places)
 
     def external(self, insert, above):
@@ -206,7 +209,10 @@ class Reader:
         return entity.dxftype() in self.readers or entity.dxftype() == "INSERT"
 
     def misplaced(self, insert):
-        """Ends at an insert that flattens its block, and at one within a block that ezdxf would put elsewhere: it has no shear, nor scaled spacing."""
+        """Ends at an insert that flattens its block, and at one within it that ezdxf would put elsewhere.
+
+        An insert has no shear, nor spacing that is scaled.
+        """
         scales = [abs(insert.dxf.get(name, 1.0)) for name in ("xscale", "yscale")]
         if not all(scales):
             raise Unusable(f"{named(insert)}: its scale is 0")
@@ -217,7 +223,8 @@ class Reader:
             if inner.mcount > 1:
                 raise Unusable(f"{named(insert)}: its block has an array of inserts, which is not read within an insert: explode it")
             if uneven and inner.dxf.get("rotation", 0.0) % 360:
-                raise Unusable(f"{named(insert)}: it is scaled unevenly, and its block has a rotated insert, which is not read so: explode it")
+                what = "it is scaled unevenly, and its block has a rotated insert, which is not read so"
+                raise Unusable(f"{named(insert)}: {what}: explode it")
 
     # Points and lengths.
 
@@ -326,7 +333,8 @@ class Reader:
 
     def spline(self, entity):
         if not entity.control_point_count():
-            raise Unusable(f"{named(entity)} has fit points only, which do not tell the curve between them: have its control points written")
+            what = "has fit points only, which do not tell the curve between them"
+            raise Unusable(f"{named(entity)} {what}: have its control points written")
         count, degree = entity.control_point_count(), entity.dxf.degree
         self.spline_points += count * (2 if degree > 3 or len(entity.weights) else 1) if count > degree + 1 else 0
         if self.spline_points > SPLINE_POINTS_MOST:

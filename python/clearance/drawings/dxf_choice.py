@@ -76,9 +76,10 @@ class Layers:
         return {"layers": {"taken": dict(sorted(self.taken.items())), "not_taken": dict(sorted(self.passed.items()))}}
 
 
-def counts(name, entity):
-    """Whether an entity of a layout is drawn there; of a paper space its viewports show the model space."""
-    return name == MODEL or entity.dxftype() != "VIEWPORT"
+def is_drawn(name, entity, layers):
+    """Whether a layout draws an entity, on a layer that is taken. Viewports show the model space; an insert may have any layers."""
+    kind = entity.dxftype()
+    return (name == MODEL or kind != "VIEWPORT") and (kind == "INSERT" or layers.takes(entity.dxf.get("layer", "0")))
 
 
 def chosen(document, wish, layers, undrawn):
@@ -93,7 +94,7 @@ def chosen(document, wish, layers, undrawn):
     name = wanted[0]
     others = {}
     for other, entities in found.items():
-        drawn = [each for each in entities if counts(other, each) and (each.dxftype() == "INSERT" or layers.takes(each.dxf.get("layer", "0")))]
+        drawn = [each for each in entities if is_drawn(other, each, layers)]
         if other != name and drawn:
             others[other] = drawn
     if wish.layout is None:

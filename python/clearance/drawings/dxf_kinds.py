@@ -64,4 +64,5 @@ class Groups:
                 undrawn.counts[kind] += group.count
                 continue
             what = f"{group.count} {name} {'makes' if group.count == 1 else 'make'} no edge, the first is {group.first}"
-            undrawn.add(kind, f"{what}: {'bind' if kind == 'xref' else 'explode or convert'} it in the CAD program", group.place, group.count)
+            way = "bind" if kind == "xref" else "explode or convert"
+            undrawn.add(kind, f"{what}: {way} it in the CAD program", group.place, group.count)

@@ -68,6 +68,7 @@ def read(data, wish):
         undrawn.add(kind, f"{element}: it may change what is drawn", element.place)
     structure = Structure(document, styles, undrawn).run(page.place, page.size)
     reader = Reader(elements, undrawn, page.border).run(structure.shapes)
+    undrawn.findings.sort(key=lambda finding: finding.place)
     undrawn.settle()
     return Drawing(reader.curves, page.unit, undrawn.counts, list(remarks(structure.hidden, reader.off_page)))
 
@@ -77,7 +78,7 @@ def remarks(hidden, off_page):
     if hidden:
         yield f"{hidden} {'shape is' if hidden == 1 else 'shapes are'} not displayed and not taken"
     if off_page:
-        yield f"{off_page} {'shape reaches' if off_page == 1 else 'shapes reach'} off the page and {'is' if off_page == 1 else 'are'} taken whole"
+        yield f"{off_page} {'shape reaches off the page and is' if off_page == 1 else 'shapes reach off the page and are'} taken whole"
 
 
 class Reader:

@@ -6,7 +6,7 @@ their parts are counted: svgelements must give as many.
 
 import re
 
-from .svg_numbers import BETWEEN, NUMBER, Fault, in_range
+from .svg_numbers import BETWEEN, NUMBER, SPACE, Fault, in_range
 
 FLAG = re.compile(r"[01]")
 COMMAND = re.compile(r"[MmZzLlHhVvCcSsQqTtAa]")
@@ -18,7 +18,7 @@ GROUPS = {"M": "nn", "L": "nn", "T": "nn", "H": "n", "V": "n", "C": "n" * 6, "S"
 
 def path_letters(data):
     """The command of each part of path data, in capitals. Raises Fault."""
-    at = BETWEEN.match(data).end()
+    at = SPACE.match(data).end()
     if at < len(data) and data[at] not in "Mm":
         raise Fault("path data must begin with M")
     letters, steps, begin = [], 0, 0
@@ -40,7 +40,7 @@ def groups_end(data, at, command):
     """Where the groups of numbers of a command end, and how many there are."""
     kinds = GROUPS[command.upper()]
     if not kinds:
-        return BETWEEN.match(data, at).end(), 1
+        return SPACE.match(data, at).end(), 1
     groups = 0
     while True:
         at, found = group_end(data, at, kinds)
@@ -54,7 +54,7 @@ def groups_end(data, at, command):
 def group_end(data, at, kinds):
     """Where a group of numbers ends, and how many of them there are."""
     found = 0
-    at = BETWEEN.match(data, at).end()
+    at = SPACE.match(data, at).end()
     for kind in kinds:
         match = (FLAG if kind == "f" else NUMBER).match(data, at)
         if match is None:

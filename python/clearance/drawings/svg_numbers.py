@@ -5,9 +5,12 @@ from fractions import Fraction
 
 # As svgelements has it: it stops at a number of another form.
 NUMBER = re.compile(r"[-+]?[0-9]*\.?[0-9]+(?:[eE][-+]?[0-9]+)?")
-BETWEEN = re.compile(r"[\s,]*", re.ASCII)
+SPACE = re.compile(r"[ \t\r\n\f]*")
+# A comma stands between two numbers only: what programs do with others differs.
+BETWEEN = re.compile(r"[ \t\r\n\f]*(?:,[ \t\r\n\f]*(?=[-+.0-9]))?")
 # No number of a drawing is as large as this: it would be out of every sheet, and doubles would lose its places.
 NUMBER_MOST = 1e15
+DIGITS_MOST = 300
 
 
 class Fault(Exception):
@@ -16,6 +19,8 @@ class Fault(Exception):
 
 def in_range(text):
     """The text of a number that is not too large; a fraction of 1e999999999 would take all memory."""
+    if len(text) > DIGITS_MOST:
+        raise Fault(f"a number has more than {DIGITS_MOST} digits")
     if not abs(float(text)) < NUMBER_MOST:
         raise Fault(f"the number {text[:40]} is too large")
     return text
@@ -28,7 +33,7 @@ def exact(text):
 
 def numbers(text):
     """The numbers of a list, or nothing where there is something else in it."""
-    at, found = BETWEEN.match(text).end(), []
+    at, found = SPACE.match(text).end(), []
     while at < len(text):
         match = NUMBER.match(text, at)
         if match is None:

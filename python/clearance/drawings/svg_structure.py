@@ -37,9 +37,10 @@ NEVER = {
     *("filter", "style", "script", "title", "desc", "metadata", "view", "cursor", "font", "font-face", "color-profile", "stop", "mpath"),
     *("tspan", "tref", "textPath", "altGlyphDef", "glyph", "flowRegion", "flowPara", "flowDiv", *ANIMATIONS),
 }
+COUNTED = {*SHAPES, *KIND_OF, "use"}
 USABLE = {*SHAPES, *GROUPS, *KIND_OF, "svg", "symbol", "use"}
 CONDITIONS = ("requiredFeatures", "requiredExtensions", "systemLanguage")
-SMOOTH_PAINT = ("linearGradient", "radialGradient", "solidcolor", "solidColor")
+SMOOTH_PAINT = ("linearGradient", "radialGradient", "meshgradient", "solidcolor", "solidColor")
 
 INHERITED = ("visibility", *MARKERS, *PAINT)
 INITIAL = {"visibility": "visible"}
@@ -83,6 +84,7 @@ class Structure:
     def __init__(self, document, styles, undrawn):
         self.document, self.styles, self.undrawn = document, styles, undrawn
         self.shapes, self.hidden, self.clones = [], 0, 0
+        self.counts, self.reshown = {}, {}
 
     def run(self, place, size):
         """All that is drawn on a page with this map and size."""
@@ -112,7 +114,7 @@ class Structure:
         self.count_clone(element, where)
         styles = self.styles.of(element, where.originals[-1] if where.originals else None)
         if not self.is_displayed(element, styles):
-            self.hidden += sum(one.name in SHAPES or one.name in ("use", *KIND_OF) for one in element.subtree())
+            self.hidden += self.shapes_in(element)
             return
         where = replace(where, inherited=inherit(where.inherited, styles))
         if name in (*SHAPES, *KIND_OF) and not self.is_visible(element, where):
@@ -146,7 +148,7 @@ class Structure:
         elif name in KIND_OF:
             if self.draws(element):
                 self.beside(KIND_OF[name], element, WHAT_TO_DO.get(name, "it makes no edge"))
-        elif any(one.name in SHAPES or one.name == "use" for one in element.subtree()):
+        elif self.shapes_in(element):
             raise Fault("it is no element of SVG 1.1 or 2, and whether what is in it is drawn is open: take it out of it")
 
     @staticmethod
@@ -176,8 +178,20 @@ class Structure:
         word = where.inherited.get("visibility", "visible").strip().lower()
         if word not in ("visible", "hidden", "collapse"):
             raise Fault(f"its visibility {word[:40]!r} is none that is read")
-        # Words in a text that is hidden may be made visible again.
-        return word == "visible" or any("visibility" in self.styles.of(one) for one in element.subtree() if one is not element)
+        return word == "visible" or self.shows_again(element)
+
+    def shows_again(self, element):
+        """Whether something in an element that is hidden, as words of a text, may be made visible again."""
+        if element not in self.reshown:
+            inside = (one for child in element.children for one in child.subtree())
+            self.reshown[element] = any("visibility" in self.styles.of(one) for one in inside)
+        return self.reshown[element]
+
+    def shapes_in(self, element):
+        """How many shapes and the like an element has in it."""
+        if element not in self.counts:
+            self.counts[element] = sum(one.name in COUNTED for one in element.subtree())
+        return self.counts[element]
 
     def check_beside(self, element, styles):
         """What is cut off, masked, filtered or animated."""
@@ -278,9 +292,13 @@ class Structure:
         box = view_box(element.attrib)
         inner = fitted(box, corner, sides, element.attrib) if box else translation(*corner)
         overflow = [styles[name].word() for name in ("overflow", "overflow-x", "overflow-y") if name in styles] or ["hidden"]
-        windows = where.windows if set(overflow) == {"visible"} else (*where.windows, (element, Window(corners(where.place, corner, sides))))
-        where = replace(where, place=placed(where.place, inner), size=Size(*(box[2:] if box else sides)), windows=windows)
-        self.push(element.children, where)
+        windows = where.windows
+        if set(overflow) != {"visible"}:
+            windows += ((element, Window(corners(where.place, corner, sides))),)
+        # Of what per cents are in a symbol without a viewBox programs differ.
+        known = box or element.name == "svg" or sides == (size.width, size.height)
+        inside = Size(*(box[2:] if box else sides)) if known else Size(None, None)
+        self.push(element.children, replace(where, place=placed(where.place, inner), size=inside, windows=windows))
 
 
 def inherit(above, styles):

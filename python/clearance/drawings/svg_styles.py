@@ -24,7 +24,8 @@ RELEVANT = SHOWING | MOVING | GEOMETRY | set(MARKERS) | {"marker"} | set(BESIDE)
 # Properties that may also stand in attributes of their own, but for those of geometry and the transform, which are read there.
 PRESENTED = {"display", "visibility", "overflow", "clip-path", "clip", "mask", "filter", "transform-origin", "marker", *MARKERS, *PAINT}
 PREFIX = re.compile(r"-(?:webkit|moz|ms|o)-")
-PROPERTY = re.compile(r"(?:-(?:webkit|moz|ms|o)-)?([a-z][a-z-]*)\s*(?:/\*.*?\*/\s*)*:", re.DOTALL | re.IGNORECASE)
+PROPERTY = re.compile(r"(?<![a-z-])(?:-(?:webkit|moz|ms|o)-)?([a-z][a-z-]*)\s*:", re.IGNORECASE)
+COMMENT = re.compile(r"/\*.*?(?:\*/|\Z)", re.DOTALL)
 
 HARMLESS_RULES = {"font-face", "keyframes", "-webkit-keyframes", "-moz-keyframes", "page", "charset", "counter-style", "property"}
 PSEUDO = re.compile(r":(:?[a-z-]+)", re.IGNORECASE)
@@ -36,8 +37,11 @@ FAR_COMBINATOR = re.compile(r"(?<=[\w\])*])\s+(?=[\w.#\[:*])|~(?!=)|-of-type|nth
 SEVERAL = re.compile(r"[\s>+~:]")
 # Tests of a selector on an element, as far as they can be told before. Measured: a million take about a second.
 TESTS_MOST = 2_000_000
+# Elements of originals that are looked at once more as clones.
+WRAPPED_MOST = 200_000
 LETTERS_MOST = 200_000
 
+OTHER_FILE = re.compile(r"url\(\s*['\"]?[^#'\"\s]")
 PIECE = re.compile(r"(/\*.*?\*/)|([(\[])|([)\]])|(;)|(\"[^\"]*\"|'[^']*'|[^;()\[\]\"'/]+|/)", re.DOTALL)
 
 
@@ -57,6 +61,12 @@ def optional(name):
         return import_module(name)
     except ImportError:
         return None
+
+
+def paints(element):
+    """Whether an element is a pattern, or refers to another file, where one may be."""
+    texts = (*element.attrib.values(), *element.texts)
+    return element.name in ("pattern", "hatch") or any("url(" in text and OTHER_FILE.search(text) for text in texts)
 
 
 def bounded(text):
@@ -83,8 +93,8 @@ class Styles:
             self.css = self.select = None
         self.document, self.findings = document, findings
         every = list(document.root.subtree())
-        self.relevant = RELEVANT | set(PAINT) if any(element.name in ("pattern", "hatch", "mesh") for element in every) else RELEVANT
-        self.rules, self.texts, self.known, self.trees = 0, [], {}, {}
+        self.relevant = RELEVANT | set(PAINT) if any(map(paints, every)) else RELEVANT
+        self.rules, self.wrapped, self.texts, self.known, self.trees = 0, 0, [], {}, {}
         self.matcher = self.select.Matcher() if self.select else None
         sheets = [element for element in every if element.is_style() and self.is_css(element)]
         if sum(len(text) for sheet in sheets for text in sheet.texts) > LETTERS_MOST:
@@ -104,7 +114,9 @@ class Styles:
         """A relevant property that is spoken of in a text, or nothing."""
         if "\\" in text:
             return "what has a backslash"
-        return next((match[1].lower() for match in PROPERTY.finditer(text) if match[1].lower() in self.relevant), None)
+        # What looks like a comment may be in a string.
+        both = (text, COMMENT.sub(" ", text)) if "/*" in text else (text,)
+        return next((match[1].lower() for one in both for match in PROPERTY.finditer(one) if match[1].lower() in self.relevant), None)
 
     # Stylesheets.
 
@@ -145,7 +157,7 @@ class Styles:
             self.finding(element, "an @import in a <style> is not read: put the styles of the other file into it")
         elif media and rule.content is not None:
             self.gather(element, self.css.parse_rule_list(rule.content, skip_comments=True, skip_whitespace=True))
-        elif media is None and word not in HARMLESS_RULES and (word == "namespace" or self.speaks(rule.serialize())):
+        elif media is None and word not in HARMLESS_RULES and (word == "namespace" or self.speaks(self.css.serialize(rule.content or ()))):
             self.finding(element, f"an @{word} in a <style> is not read: write what it says of the elements as attributes")
 
     def rule(self, element, rule):
@@ -238,6 +250,9 @@ class Styles:
         if root not in self.trees:
             tree = self.select.ElementWrapper.from_xml_root(root).iter_subtree()
             self.trees[root] = {wrapper.etree_element: wrapper for wrapper in tree}
+            self.wrapped += len(self.trees[root])
+            if self.wrapped > WRAPPED_MOST:
+                raise Unusable("its styles look around too many clones: write styles as attributes", *root.place)
         return self.matcher.match(self.trees[root][element])
 
 

@@ -7,7 +7,7 @@ from fractions import Fraction
 from functools import lru_cache
 
 from .curves import FINENESS
-from .svg_numbers import BETWEEN, Fault, numbers
+from .svg_numbers import SPACE, Fault, numbers
 
 TRANSFORM = re.compile(r"[\s,]*(matrix|translate|scale|rotate|skewX|skewY)\s*\(([^()]*)\)", re.ASCII)
 # How many numbers a transform may have.
@@ -114,7 +114,7 @@ def one_map(name, values):
 def transform_of(text):
     """The map of a transform attribute."""
     at, found = 0, SAME
-    while BETWEEN.match(text, at).end() < len(text):
+    while SPACE.match(text, at).end() < len(text):
         match = TRANSFORM.match(text, at)
         values = numbers(match[2]) if match else None
         if values is None or len(values) not in TRANSFORM_NUMBERS[match[1]]:

@@ -103,11 +103,13 @@ class Document:
             raise Unusable(f"it has more than {ELEMENTS_MOST:,} elements", *self.here())
         above = self.open[-1] if self.open else None
         attrib = {braced(key): value for key, value in attributes.items()}
-        element = Element(braced(name), local if space == self.space else "", attrib, above, *self.here())
+        element = Element(braced(name), local if space in (self.space, NAMESPACE) else "", attrib, above, *self.here())
         if above is None:
             self.root = element
         else:
             above.children.append(element)
+        if element.tag == f"{{{XHTML}}}link":
+            self.outside.append(Unusable("a <link> to another file is not read: put its styles into a <style>", *element.place))
         self.open.append(element)
         self.deepest = max(self.deepest, len(self.open))
         self.named(element)

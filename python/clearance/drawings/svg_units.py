@@ -45,7 +45,7 @@ class Size:
         else:
             found = Fraction(math.sqrt((self.width**2 + self.height**2) / 2))
         if found is None:
-            raise Fault("a per cent of a page whose size is not known is not read: give the page a width and a height or a viewBox")
+            raise Fault("a per cent of a viewport whose size is not known is not read: give it a width and a height or a viewBox")
         return found
 
 

@@ -1,0 +1,1 @@
+// Figures only: see specs/Lib.antt.
