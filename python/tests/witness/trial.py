@@ -150,10 +150,10 @@ def shifted(outline, others, off, part):
 
 
 NUMBERS = re.compile(r"\(?[-+]?\d[\d,.]*(?:e[-+]?\d+)?\)?", re.IGNORECASE)
-NAMES = re.compile(r"'[^']*'|#[0-9A-Fa-f]+\b|\([A-Z]+\(#?[0-9A-Fa-f]*\)\)|(?<=<)\w+ id=\"[^\"]*\"(?=>)")
+NAMES = re.compile(r"'[^']*'|#[0-9A-Fa-f]+\b|\([A-Z]+\(#?[0-9A-Fa-f]*\)\)|(?<=<)\w+(?: id=\"[^\"]*\")?(?=>:)")
 
 
 def kind_of(words):
-    """The kind of a refusal: its words without places, numbers and names."""
-    first = words.splitlines()[-1] if words else ""
+    """The kind of a refusal: the words of its first finding without places, numbers and names."""
+    first = words.splitlines()[0] if words else ""
     return NUMBERS.sub("N", NAMES.sub("…", first)).lstrip(":N ").strip()[:110]
