@@ -62,7 +62,9 @@ class Faults(unittest.TestCase):
     """Faults that are planted in an outline: the comparison must see each."""
 
     def seen(self, path):
-        edges, off = trial.outline_of(path)
+        found = trial.outline_of(path)
+        self.assertIsInstance(found, tuple, found)
+        edges, off = found
         outline = outline_lines(edges)
         there, slack, part = trial.witness(path, outline, ())
         self.assertIsNone(trial.differing(outline, there, off + slack, part))

@@ -1,4 +1,5 @@
-"""What GDAL's ogr2ogr reads of a DXF drawing: the lines and curves of its model space, as polylines in millimetres.
+"""What GDAL's ogr2ogr reads of a DXF drawing, as polylines in millimetres: the lines and curves of its model space, or all that
+is drawn but text, which it gives as points.
 
 Blocks are inserted and arcs followed by chords there. A spline has eight chords for each control point, which may be far from
 it, so those polylines come with how far they may be off.
@@ -33,7 +34,7 @@ def unit_of(data):
     return UNITS[int(stated[1])]
 
 
-def drawn(path, unit):
+def drawn(path, unit, everything=False):
     """The polylines of a drawing, and how far they may be from the curves that they stand for, in millimetres."""
     words = [PROGRAM, *WORDS.split(), "/vsistdout/", str(path)]
     done = subprocess.run(words, capture_output=True, check=False, timeout=SECONDS_MOST)
@@ -43,31 +44,33 @@ def drawn(path, unit):
         raise CannotTell(f"{PROGRAM}: {' '.join(done.stderr.decode(errors='replace').split())[:200]}") from error
     lines, slack = [], 0.0
     for feature in features:
-        found = [[(unit * point[0], unit * point[1]) for point in line] for line in taken(feature)]
+        found = [[(unit * point[0], unit * point[1]) for point in line] for line in taken(feature, everything)]
         if "AcDbSpline" in (feature["properties"].get("SubClasses") or ""):
             slack = max([slack, *map(off_curve, found)])
         lines += found
     return lines, slack
 
 
-def taken(feature):
-    """The lines of a feature of the model space that makes edges. Old drawings do not name kinds: all lines of these are taken."""
+def taken(feature, everything):
+    """The lines of a feature: of all, or of those of the model space that make edges. Old drawings do not name kinds, and all
+    lines of these are taken."""
     about, geometry = feature["properties"], feature["geometry"]
     kinds = set((about.get("SubClasses") or "").split(":")) - {""}
-    if about.get("PaperSpace") or geometry is None or (kinds and not kinds & KINDS):
+    if geometry is None or not everything and (about.get("PaperSpace") or kinds and not kinds & KINDS):
         return []
-    return [line for line in geometry_lines(geometry) if len(set(map(tuple, line))) > 1]
+    return [line for line in geometry_lines(geometry, everything) if len(set(map(tuple, line))) > 1]
 
 
-def geometry_lines(geometry):
+def geometry_lines(geometry, filled):
+    """The lines of a geometry, and the borders of its areas where these are asked for."""
     kind, inside = geometry["type"], geometry.get("coordinates")
+    if kind == "GeometryCollection":
+        return [line for part in geometry["geometries"] for line in geometry_lines(part, filled)]
     if kind == "LineString":
         return [inside]
-    if kind == "MultiLineString":
+    if kind == "MultiLineString" or kind == "Polygon" and filled:
         return inside
-    if kind == "GeometryCollection":
-        return [line for part in geometry["geometries"] for line in geometry_lines(part)]
-    return []
+    return [line for area in inside for line in area] if kind == "MultiPolygon" and filled else []
 
 
 def off_curve(line):

@@ -176,6 +176,8 @@ class Maker:
             f".{classes[0]}": (0, 1, 0),
             f".{classes[0]}.{classes[1]}": (0, 2, 0),
             f"{tag}.{classes[1]}": (0, 1, 1),
+            f"svg .{classes[0]}": (0, 1, 1),
+            f"[class~={classes[1]}]": (0, 1, 0),
             f"#{name}": (1, 0, 0),
             f"{tag}#{name}": (1, 0, 1),
         }
@@ -255,15 +257,18 @@ class Maker:
         return Piece(f'<use {link}="#{name}"{words}{turn}{style}/>', inherited(lines, visible))
 
     def view(self, span):
-        """The inside of a symbol or an inner <svg>, with its viewBox."""
-        box = [round(self.rng.uniform(-5, 5), 2), round(self.rng.uniform(-5, 5), 2)]
-        box += [round(self.rng.uniform(5, span), 2), round(self.rng.uniform(5, span), 2)]
-        align = self.rng.choice(["", "none", *ALIGNS]) if self.rng.random() < 0.7 else ""
-        how = self.rng.choice(("", " meet", " slice")) if align else ""
-        text = f' viewBox="{" ".join(map(told, box))}"' + (f' preserveAspectRatio="{align}{how}"' if align else "")
+        """The inside of a symbol or an inner <svg>, mostly with a viewBox."""
         # What is cut off is known here as if it were not.
-        text += self.rng.choice(("", ' overflow="visible"', ' overflow="visible"', ' style="overflow:visible"'))
-        pieces = [self.element(min(box[2:]), box[2:], 3) for _ in range(self.rng.randint(1, 2))]
+        text = self.rng.choice(("", ' overflow="visible"', ' overflow="visible"', ' style="overflow:visible"'))
+        box, align, how = None, "", ""
+        if self.rng.random() < 0.8:
+            box = [round(self.rng.uniform(-5, 5), 2), round(self.rng.uniform(-5, 5), 2)]
+            box += [round(self.rng.uniform(5, span), 2), round(self.rng.uniform(5, span), 2)]
+            align = self.rng.choice(["", "none", *ALIGNS])
+            how = self.rng.choice(("", " meet", " slice")) if align else ""
+            text += f' viewBox="{" ".join(map(told, box))}"' + (f' preserveAspectRatio="{align}{how}"' if align else "")
+        inside = min(box[2:]) if box else span / 2
+        pieces = [self.element(inside, box and box[2:], 3) for _ in range(self.rng.randint(1, 2))]
         lines = [line for piece in pieces for line in piece.lines]
         return text, View("".join(piece.text for piece in pieces), lines, box, align or "xMidYMid", how.strip())
 
@@ -273,7 +278,8 @@ class Maker:
         words, view = self.view(span)
         lengths, found = self.lengths(viewport, **sizes)
         view.sizes = found
-        return Piece(f"<svg{lengths}{words}>{view.text}</svg>", view.within({}, viewport))
+        turn, place = self.transform(span, 0.2)
+        return Piece(f"<svg{lengths}{words}{turn}>{view.text}</svg>", Piece("", view.within({}, viewport)).placed(place))
 
 
 @dataclass
@@ -289,7 +295,7 @@ class View(Piece):
         """The lines in the units around it, in the size that a clone tells, or else its <svg>, or else all of the viewport."""
         told_sizes = {**self.sizes, **{name: found[name] for name in ("width", "height") if name in found}}
         width, height = (told_sizes.get(name, viewport and viewport[axis]) for axis, name in enumerate(("width", "height")))
-        place = fitted(self.box, (width, height), self.align, self.how)
+        place = fitted(self.box, (width, height), self.align, self.how) if self.box else IDENTITY
         return self.placed(after((1, 0, 0, 1, self.sizes.get("x", 0.0), self.sizes.get("y", 0.0)), place))
 
 

@@ -120,7 +120,8 @@ def witness(path, outline, words):
     if data.lstrip(b"\xef\xbb\xbf\xff\xfe \t\r\n\x00").startswith(b"<"):
         left_out = words[words.index("--leave-out") + 1].split(",") if "--leave-out" in words else ()
         return svg_drawn.drawn(data, box_of(outline) or (0.0, 0.0, 1.0, 1.0), unit, left_out), 0.0, svg_drawn.SLACK
-    lines, slack = dxf_drawn.drawn(path, unit if unit is not None else dxf_drawn.unit_of(data))
+    # Where nothing was asked to be left out, the outline must have all that is drawn.
+    lines, slack = dxf_drawn.drawn(path, unit if unit is not None else dxf_drawn.unit_of(data), "--leave-out" not in words)
     return lines, slack, dxf_drawn.SLACK
 
 
@@ -150,10 +151,10 @@ def shifted(outline, others, off, part):
 
 
 NUMBERS = re.compile(r"\(?[-+]?\d[\d,.]*(?:e[-+]?\d+)?\)?", re.IGNORECASE)
-NAMES = re.compile(r"'[^']*'|#[0-9A-Fa-f]+\b|\([A-Z]+\(#?[0-9A-Fa-f]*\)\)|(?<=<)\w+ id=\"[^\"]*\"(?=>)")
+NAMES = re.compile(r"'[^']*'|#[0-9A-Fa-f]+\b|\([A-Z]+\(#?[0-9A-Fa-f]*\)\)|(?<=<)\w+(?: id=\"[^\"]*\")?(?=>:)")
 
 
 def kind_of(words):
-    """The kind of a refusal: its words without places, numbers and names."""
-    first = words.splitlines()[-1] if words else ""
+    """The kind of a refusal: the words of its first finding without places, numbers and names."""
+    first = words.splitlines()[0] if words else ""
     return NUMBERS.sub("N", NAMES.sub("…", first)).lstrip(":N ").strip()[:110]
