@@ -44,10 +44,10 @@ def read(data, wish):
     package("ezdxf")
     notices, undrawn = Notices(), Undrawn(wish.leave_out)
     with quiet(notices):
-        file = File(data)
-        for message in file.losses():
-            undrawn.refuse(message)
         try:
+            file = File(data)
+            for message in file.losses():
+                undrawn.refuse(message)
             unit, told_unit = (UNITS[wish.unit], wish.by_option()) if wish.unit else stated(data, file.document)
             layers = Layers(wish, file.document)
             layout, entities, choice = chosen(file.document, wish, layers, undrawn)
