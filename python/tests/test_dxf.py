@@ -324,6 +324,8 @@ class Files(Drawn):
         _, err = self.job(self.text(wide, thick))
         self.assertIn("the centre line is taken: 1\n", err)
         self.assertIn("part is taken: 1\n", err)
+        aside = entity("LINE", (39, 4), *points(10, (0, 0)), *points(11, (10, 5)), *points(210, (1, 0, 0)))
+        self.finding(self.text(LINE, aside), "is not in the plane z = 0")
 
     def test_frames_of_fitted_polylines(self):
         def vertices(*flags):
