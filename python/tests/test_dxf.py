@@ -188,6 +188,10 @@ class Layouts(Drawn):
         self.assertEqual(job.edges, EDGE)
         self.assertIn("layout taken: 1 Model; not taken: 1 Layout1, 1 Second\n", err)
         self.assertEqual(len(self.findings(path)), 2)
+        out = ran(path, "--reach", "1", "--layout", "Model", "--layer", "0", "--json", "-o", self.folder / "part.sheet")[1]
+        layers = {"taken": {"0": 1}, "not_taken": {}}
+        layout = {"taken": {"Model": 1}, "not_taken": {"Layout1": 1, "Second": 1}}
+        self.assertEqual(json.loads(out)["chosen"], {"layout": layout, "layers": layers})
         self.finding(path, "the layouts are 'Model', 'Layout1', 'Second'", words=("--layout", "Third"))
 
     def test_viewports_of_a_layout_that_is_taken_are_findings(self):
@@ -297,7 +301,7 @@ class Files(Drawn):
         for text, said in (
             (dxf_file(line(1)).replace(tags((0, "EOF")), section + tags((0, "EOF"))), "the section ENTITIES stands there 2 times"),
             (dxf_file(LINE, blocks=block("B", LINE) + block("b", line(2))), "the block 'b' is defined 2 times"),
-            (dxf_file(LINE, blocks=newer("BLOCK", "AcDbBlockBegin", (2, "A"), *AT) + line(1) + block("B", LINE)), "ezdxf loads 2 of its 3"),
+            (dxf_file(LINE, blocks=newer("BLOCK", "AcDbBlockBegin", (2, "A"), *AT) + line(1) + block("B", LINE)), "ezdxf loads 2 of its 3 LINE"),
             (dxf_file(LINE).replace("0\nENDSEC\n", "0\nENDSEC\n0\nLINE\n8\n0\n", 1), "found tags outside a SECTION"),
         ):
             self.assertTrue(any(said in message for message in self.findings(self.file("part.dxf", text))), said)
@@ -320,6 +324,8 @@ class Files(Drawn):
         _, err = self.job(self.text(wide, thick))
         self.assertIn("the centre line is taken: 1\n", err)
         self.assertIn("part is taken: 1\n", err)
+        aside = entity("LINE", (39, 4), *points(10, (0, 0)), *points(11, (10, 5)), *points(210, (1, 0, 0)))
+        self.finding(self.text(LINE, aside), "is not in the plane z = 0")
 
     def test_frames_of_fitted_polylines(self):
         def vertices(*flags):

@@ -44,10 +44,10 @@ def read(data, wish):
     package("ezdxf")
     notices, undrawn = Notices(), Undrawn(wish.leave_out)
     with quiet(notices):
-        file = File(data)
-        for message in file.losses():
-            undrawn.refuse(message)
         try:
+            file = File(data)
+            for message in file.losses():
+                undrawn.refuse(message)
             unit, told_unit = (UNITS[wish.unit], wish.by_option()) if wish.unit else stated(data, file.document)
             layers = Layers(wish, file.document)
             layout, entities, choice = chosen(file.document, wish, layers, undrawn)
@@ -140,7 +140,9 @@ class Reader:
     def taken_entity(self, entity, above):
         kind = entity.dxftype()
         if kind in self.readers:
-            self.thick += bool(attribute(entity, "thickness", 0))
+            if attribute(entity, "thickness", 0):
+                self.side(entity)  # along another axis it would lie beside the entity
+                self.thick += 1
             self.readers[kind](entity)
         elif kind != "VIEWPORT" or above.on_paper and attribute(entity, "id", 0) != 1:  # 1 is the paper itself
             self.undrawn(kind, entity)

@@ -158,7 +158,7 @@ class File:
             pairs = ((0, tag.code, str(tag.value)) for tag in binary_tags_loader(data))
         else:
             lines = decoded(data)
-            start = beginning(lines)
+            start = beginning(lines) or 0
             pairs = pairs_of(lines, start)
         try:
             self.tags, last = walked(pairs)
@@ -213,8 +213,9 @@ class File:
             found[entity.dxftype()] += 1
             found["VERTEX"] += len(getattr(entity, "vertices", ())) if entity.dxftype() == "POLYLINE" else 0
             found["ATTRIB"] += len(getattr(entity, "attribs", ()))
-        if sum(found.values()) < sum(written.values()):
-            yield f"ezdxf loads {sum(found.values())} of its {sum(written.values())} entities"
+        for name, count in written.items():
+            if found[name] < count:
+                yield f"ezdxf loads {found[name]} of its {count} {name}"
 
 
 def loaded(data, lines):
