@@ -274,7 +274,7 @@ class Dxf(Case):
     def test_others_are_left_out_and_counted(self):
         others = entity("TEXT", *points(10, (0, 0)), (40, 1), (1, "hi")) * 2 + entity("POINT", *points(10, (0, 0)))
         path = self.file("part.dxf", dxf_file(LINE, others))
-        self.finding(path, "2 TEXT make no edge", "--leave-out text leaves it out")
+        self.finding(path, "2 TEXT make no edge", "--leave-out text goes on without it")
         _, err = self.job(path, "--leave-out", "text")
         self.assertIn("left out: 1 point, 2 text", err)
         self.assertIn("no point of what was taken", err)
@@ -497,7 +497,7 @@ class Svg(Case):
     def test_text_is_left_out(self):
         text = '<text x="1" y="1">Hi <tspan>you</tspan></text>'
         path = self.file("part.svg", svg_file(text, '<line x1="0" y1="0" x2="5" y2="0"/>'))
-        self.finding(path, ":2:1: <text>: it makes no edge: convert it to paths; --leave-out text leaves it out")
+        self.finding(path, ":2:1: <text>: it makes no edge: convert it to paths; --leave-out text goes on without it")
         _, err = self.job(path, "--leave-out", "text")
         self.assertIn("left out: 1 text", err)
         self.assertIn("no point of what was taken", err)

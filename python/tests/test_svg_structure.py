@@ -278,7 +278,7 @@ class Beside(Case):
             ("script", "<script>", "<script>run()</script>"),
         ):
             self.finding(f"{element}: ", shape)
-            self.finding(f"; --leave-out {kind} leaves it out", shape)
+            self.finding(f"; --leave-out {kind} goes on without it", shape)
             told = drawing(LINE, shape, leave_out=(kind,))
             self.assertEqual(told.left_out, {kind: 1}, shape)
             self.assertIn(kind, svg.KINDS)

@@ -76,7 +76,7 @@ class Undrawn:
         if kind in self.leave_out:
             self.counts[kind] += count
         else:
-            self.findings.append(Unusable(f"{message}; --leave-out {kind} leaves it out", *place))
+            self.findings.append(Unusable(f"{message}; --leave-out {kind} goes on without it", *place))
 
     def refuse(self, message, place=(0, 0)):
         """A finding that nothing leaves out."""
