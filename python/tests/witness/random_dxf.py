@@ -30,7 +30,8 @@ class Maker:
         self.rng = rng
         self.blocks, self.handles = [], 0x100
         # GDAL 3.6 draws some arcs of more than half a turn elsewhere.
-        self.known_only = rng.random() < 0.15
+        self.large_arcs = rng.random() < 0.15
+        self.known_only = self.large_arcs
 
     def entity(self, kind, *pairs, subclass):
         """An entity as DXF has it from release 2000 on."""
@@ -83,7 +84,7 @@ class Maker:
         return self.entity("ELLIPSE", *pairs, subclass="AcDbEllipse"), [ellipse_line(centre, major, minor, first, sweep)]
 
     def corners(self, span):
-        most = 3.0 if self.known_only else 1.0
+        most = 3.0 if self.large_arcs else 1.0
         bulges = [self.rng.choice((0, 0, 1, -1)) * round(self.rng.uniform(0.05, most), 3) for _ in range(self.rng.randint(2, 6))]
         return [(self.point(span), bulge) for bulge in bulges], self.rng.random() < 0.5
 
@@ -131,6 +132,8 @@ class Maker:
         found = [self.shape(span) for _ in range(self.rng.randint(1, 3))]
         if self.blocks and self.rng.random() < 0.7:
             found.append(self.insert(span, nested=True))
+            # GDAL 3.6 takes the base point off an insert before it turns its x the other way.
+            self.known_only |= base != (0.0, 0.0) and "\n230\n-1.0\n" in found[-1][0]
         inside = "".join(text for text, _ in found)
         pairs = [(2, name), (70, 0), *point_tags(10, base), (3, name), (1, "")]
         text = self.entity("BLOCK", *pairs, subclass="AcDbBlockBegin") + inside + self.entity("ENDBLK", subclass="AcDbBlockEnd")
