@@ -71,12 +71,14 @@ def parser(names=None):
 
 def main(words=None):
     words = sys.argv[1:] if words is None else words
+    console.unsaid.clear()
     try:
         if words == ["--version"]:  # without the parser, which takes longer to load than all else
             console.put(f"{TOLD_VERSION}\n")
             return console.DONE
         asked = parser(needed(words)).parse_args(words)
-        return asked.run(asked)
+        status = asked.run(asked)
+        return console.FAILED if console.unsaid else status
     except console.Ended as ended:
         console.say(ended)
         return ended.status

@@ -34,10 +34,17 @@ def failed(path, error):
     return Ended(FAILED, f"{path}: {error.strerror or error}")
 
 
+# Messages that could not be written. What was to be said is part of the answer.
+unsaid = []
+
+
 def say(message):
     # Without standard error there is nobody to tell; print would take standard output then.
     if sys.stderr is not None:
-        print(f"clearance: {message}", file=sys.stderr)
+        try:
+            print(f"clearance: {message}", file=sys.stderr, flush=True)
+        except OSError:
+            unsaid.append(message)
 
 
 def at(path, line=0, column=0):

@@ -150,8 +150,10 @@ def names(output, count):
 def told_written(output, count):
     """What is said when a part of so many sheets is written; a part of more sheets that was there before leaves some behind."""
     sheet_names, part_name = names(output, count)
-    following = names(output, count + 1)[0][-1]
-    behind = f"; {following} is there from before and is none of its sheets" if os.path.lexists(following) else ""
+    older = []
+    while os.path.lexists(names(output, count + len(older) + 1)[0][-1]):
+        older.append(names(output, count + len(older) + 1)[0][-1])
+    behind = f"; from before, and none of its sheets: {these(older)}" if older else ""
     return f"written: {these(sheet_names)}, and {part_name}, which stands for the whole part{behind}"
 
 

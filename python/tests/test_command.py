@@ -1,14 +1,16 @@
 """How the command starts: what it loads, and an interrupt while it loads."""
 
+import os
 import subprocess
 import sys
+import tempfile
 import unittest
 from unittest import mock
 
 from clearance import __main__ as start
 from clearance import cli
 
-from .samples import PYTHON, command, environment
+from .samples import EXAMPLES, PYTHON, command, command_line, environment
 
 LOADED = """
 import sys
@@ -50,6 +52,13 @@ class Start(unittest.TestCase):
         self.assertEqual((status, out), (2, ""))
         self.assertIn("'check'", err)
         self.assertEqual(command()[0], 2)
+
+    @unittest.skipUnless(os.path.exists("/dev/full"), "there is no full device here")
+    def test_what_could_not_be_said_is_a_write_that_failed(self):
+        with tempfile.TemporaryDirectory() as folder, open("/dev/full", "wb") as full:
+            words = command_line("advise", EXAMPLES[0], "--also", EXAMPLES[0], "--write", "-o", f"{folder}/F.sheet")
+            done = subprocess.run(words, stdout=subprocess.PIPE, stderr=full, check=False, env=environment())
+            self.assertEqual((done.returncode, done.stdout, len(os.listdir(folder))), (3, b"", 3))
 
     def test_an_interrupt_while_loading(self):
         kept = {name: module for name, module in sys.modules.items() if name != "clearance.cli"}

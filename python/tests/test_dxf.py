@@ -5,7 +5,7 @@ import unittest
 
 from clearance.drawings import dxf, dxf_choice, dxf_kinds
 
-from .test_from import HAS, LINE, Case, block, dxf_file, entity, insert, newer, points, polyline, ran, tags
+from .test_from import HAS, LINE, Case, block, dxf_file, entity, insert, newer, points, polyline, ran, spline, tags
 
 if HAS["ezdxf"]:
     import ezdxf
@@ -48,6 +48,73 @@ class Drawn(Case):
         status, out, err = ran(path, "--reach", "2.5", *words)
         self.assertEqual((status, out), (1, b""), err)
         return err.splitlines()
+
+
+class Odd(Drawn):
+    """What ezdxf passes over without a word, or programs read in different ways."""
+
+    def odd(self, said, *entities, **more):
+        self.finding(self.text(*entities, **more), said)
+
+    def test_groups_outside_of_an_entity_s_own_part(self):
+        own = ((100, "AcDbPolyline"), (90, 2), (70, 0), *points(10, (0, 0), (40, 0)))
+        for before, behind, group in (
+            ((), ((100, "AcDbFoo"), *points(10, (40, 50))), 10),
+            (((70, 1),), (), 70),
+            ((), ((100, "AcDbFoo"), (210, 0), (220, 0), (230, -1)), 210),
+            (((38, 7),), (), 38),
+            ((), ((1001, "ACAD"), *points(10, (40, 50))), 10),
+        ):
+            polyline_tags = entity("LWPOLYLINE", (100, "AcDbEntity"), *before, *own, *behind)
+            path = self.text(polyline_tags)
+            self.assertTrue(any(f"its group {group} stands outside of AcDbPolyline" in line for line in self.findings(path)), group)
+
+    def test_counts_that_are_not_so(self):
+        self.odd("it says 3 of group 10, and has 2", newer("LWPOLYLINE", "AcDbPolyline", (90, 3), (70, 0), *points(10, (0, 0), (40, 0))))
+        more = newer("SPLINE", "AcDbSpline", (70, 8), (71, 1), (72, 4), (73, 3), *[(40, at) for at in (0, 0, 1, 1)], *points(10, (0, 0, 0), (1, 3, 0)))
+        self.odd("it says 3 of group 10, and has 2", more)
+
+    def test_a_bulge_without_its_corner(self):
+        early = newer("LWPOLYLINE", "AcDbPolyline", (90, 2), (70, 0), (42, 1), *points(10, (0, 0), (40, 0)))
+        self.odd("its first bulge stands before its first corner", early)
+
+    def test_sections(self):
+        own = dxf_file(LINE)
+        other = tags((0, "SECTION"), (2, "Entities")) + line(70) + tags((0, "ENDSEC"))
+        self.finding(self.file("part.dxf", own.replace("0\nEOF\n", other + "0\nEOF\n")), "the section 'Entities' is not read")
+        self.finding(self.file("part.dxf", own.replace("0\nEOF\n", line(70) + "0\nEOF\n")), "LINE stands outside of all sections")
+
+    def test_units_twice(self):
+        own = dxf_file(LINE)
+        twice = own.replace("9\n$INSUNITS\n70\n4\n", "9\n$INSUNITS\n70\n4\n9\n$INSUNITS\n70\n1\n")
+        self.finding(self.file("part.dxf", twice), "states $INSUNITS more than once")
+        self.assertIn("the section HEADER stands there 2 times", self.findings(self.file("part.dxf", own[: own.index("0\nENDSEC")] + "0\nENDSEC\n" + own))[0])
+
+    def test_digits(self):
+        self.odd("group 10 has '1_0', which is no number", entity("LINE", (10, "1_0"), (20, 0), *points(11, (10, 5))))
+
+    def test_arrays_of_none(self):
+        for counts in ((0, 3), (3, 0), (-2, 3)):
+            placed = insert("B", *AT, (70, counts[0]), (71, counts[1]), (44, 20), (45, 40))
+            self.odd("which programs read in different ways", placed, blocks=block("B", LINE))
+        self.assertEqual(len(self.job(self.text(insert("B", *AT, (70, 0), (71, 0)), blocks=block("B", LINE)))[0].edges), 1)
+
+    def test_arcs(self):
+        self.odd("its radius is below 0", entity("ARC", *points(10, (0, 0)), (40, -5), (50, 10), (51, 100)))
+        self.odd("goes around more than once", entity("ARC", *points(10, (0, 0)), (40, 5), (50, -90), (51, 450)))
+        twice = newer("ELLIPSE", "AcDbEllipse", *points(10, (20, 10, 0)), *points(11, (5, 0, 0)), (40, 0.5), (41, 0), (42, 9.0))
+        self.odd("goes around more than once", twice)
+
+    def test_splines(self):
+        early = spline(3, [0, 0, 0, 0, 1, 1, 1, 1, 2, 2], *((x, x % 2, 0) for x in range(6)))
+        self.odd("control points that its knots leave out", early)
+        weights = [(41, weight) for weight in (1, 1e-30, 1e30, 1)]
+        wild = newer("SPLINE", "AcDbSpline", (70, 8), (71, 3), *[(40, at) for at in [0] * 4 + [1] * 4], *weights, *points(10, *((x, x % 2, 0) for x in range(4))))
+        self.odd("numbers too far apart to be followed", wild)
+
+    def test_a_block_that_names_a_file(self):
+        begin = newer("BLOCK", "AcDbBlockBegin", (2, "B"), (70, 0), *AT, (3, "B"), (1, "other.dwg"))
+        self.odd("external reference 'other.dwg'", insert("B", *AT), blocks=begin + newer("ENDBLK", "AcDbBlockEnd"))
 
 
 class Kinds(Drawn):

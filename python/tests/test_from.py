@@ -153,10 +153,10 @@ class Dxf(Case):
             nested = inner + block("C", insert("B", *points(10, (0, 0, 0)), *pairs))
             self.assertEqual(self.edges(insert("C", *points(10, (0, 0, 0)), *outer), blocks=nested), (edge,))
 
-    def test_what_goes_around_more_than_once_is_whole(self):
-        for last in (360, 360.000001, 360 + 1e-13, 725):
+    def test_what_goes_around_once_and_a_hair_is_whole(self):
+        for last in (360, 360.000001, 360 + 1e-13):
             self.assertEqual(len(self.edges(entity("ARC", *points(10, (20, 10)), (40, 5), (50, 0), (51, last)))), 3, last)
-        for last in (6.283185307, 6.28318531, 6.2832, 9.0):
+        for last in (6.283185307, 6.28318531, 6.2832):
             whole = newer("ELLIPSE", "AcDbEllipse", *points(10, (20, 10, 0)), *points(11, (5, 0, 0)), (40, 0.5), (41, 0), (42, last))
             self.assertEqual(outline_box(self.edges(whole))[:3:2], (1500, 2500), last)
         speck = newer("ELLIPSE", "AcDbEllipse", *points(10, (20, 10, 0)), *points(11, (5, 0, 0)), (40, 0.5), (41, 1.0), (42, 1.0 + 1e-10))
@@ -663,6 +663,12 @@ class Verb(Case):
             self.assertEqual(ran(path, "--reach", "2.5", *words)[0], 2, words)
 
     @needs_svgelements
+    def test_a_drawing_is_not_written_over(self):
+        path = self.file("part.svg", svg_file('<path d="M0 0L5 0"/>'))
+        before = path.read_bytes()
+        self.assertEqual(ran(path, "--reach", "1", "-o", path)[0], 2)
+        self.assertEqual(path.read_bytes(), before)
+
     def test_what_is_said(self):
         shapes = '<path d="M0 0L5 0L10 0L10 10"/><path d="M20 5L20 5"/><text>x</text>'
         status, out, err = ran(self.file("part.svg", svg_file(shapes)), "--reach", "2.501", "--leave-out", "text")

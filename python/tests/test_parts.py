@@ -524,7 +524,7 @@ class Drawings(Case):
     def test_a_shorter_part_tells_of_what_it_leaves_behind(self):
         said = [command("from", self.drawing(points), "--reach", "2.5", "--split", "-o", self.top / "F.sheet")[2] for points in (151, 101)]
         self.assertNotIn("from before", said[0])
-        self.assertIn(f"{self.top / 'F-3.sheet'} is there from before and is none of its sheets", said[1])
+        self.assertIn(f"from before, and none of its sheets: {self.top / 'F-3.sheet'}", said[1])
 
     @needs_svgelements
     def test_from_writes_the_part(self):

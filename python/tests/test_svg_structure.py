@@ -47,6 +47,14 @@ class Case(unittest.TestCase):
         self.assertIn(said, message)
 
 
+class Transforms(Case):
+    def test_commas(self):
+        """One may stand between two functions; programs differ on more, and none stands in front or behind."""
+        self.assertEqual(self.boxes(f'<g transform="translate(3) , scale(2)">{RECT}</g>'), [(23, 20, 43, 30)])
+        for text in (",translate(3)", "translate(3),,scale(2)", "translate(3)scale(2),", " , translate(3)"):
+            self.finding("is none that is read", f'<g transform="{text}">{RECT}</g>')
+
+
 class Clones(Case):
     def test_a_clone_of_what_has_a_transform(self):
         """The clone is at x 45 to 55 mm from the left and 15 to 20 mm from the top."""

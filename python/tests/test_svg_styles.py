@@ -43,6 +43,15 @@ class Displayed(Shown):
         ):
             self.assertEqual(self.shown("", attributes), shown, attributes)
 
+    def test_all_comes_first(self):
+        self.finding("the property all in a style", f'<g style="all:initial" display="none">{LINE}</g>')
+
+    def test_values_by_names(self):
+        """What a variable stands for is not looked up: a marker or a pattern may be behind it."""
+        self.finding("it has markers", '<path style="--m:url(#m);marker-end:var(--m)" d="M0 0L9 9"/>')
+        filled = '<pattern id="m"><line x2="1"/></pattern><path style="--f:url(#m);fill:var(--f)" d="M0 0L9 9"/>'
+        self.finding("its fill is a pattern", filled)
+
     def test_the_same_without_the_packages(self):
         with mock.patch.object(svg_styles, "optional", return_value=None):
             self.test_display()

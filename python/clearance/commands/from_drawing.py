@@ -32,8 +32,8 @@ sheet's reach is the one that is asked for and W, rounded up. So a C cell keeps 
 drawing itself. W is derived and not sampled; it is 0 where all lines and cubics have whole hundredths.
 
 The numbers of a drawing are taken to the nearest 10^-6 of a hundredth of a millimetre. Circles and their arcs are followed
-by the fewest standard cubics that stay within --within of them, ellipses and splines by cubics that do, before these are
-rounded. Lines that go on exactly straight are joined; edges without length are left out. Plate, cell and grain are those of
+by the fewest standard cubics that stay within --within of them, ellipses and splines by cubics that do where their numbers
+allow it, before these are rounded; W tells. Lines that go on exactly straight are joined; edges without length are left out. Plate, cell and grain are those of
 `clearance advise`, but for a plate that is given. Of a drawing that is split, a cell is clear where the maps of all its sheets
 say C, and in reach where one of them says I.
 
@@ -144,6 +144,8 @@ def run(asked):
         raise console.misused("--split needs -o FILE.sheet")
     if asked.json and asked.output == "-":
         raise console.misused("--json needs -o FILE")
+    if is_same_file(asked.drawing, asked.output):
+        raise console.misused(f"{asked.output}: -o would write the sheet over its drawing")
     plate = plate_of(*asked.plate) if asked.plate else None
     try:
         drawing, outline = read(asked)
@@ -168,6 +170,13 @@ def run(asked):
     if asked.json:
         console.put_json(facts)
     return console.DONE
+
+
+def is_same_file(path, other):
+    try:
+        return os.path.samefile(path, other)
+    except OSError:
+        return False
 
 
 def unfit(path, reasons):

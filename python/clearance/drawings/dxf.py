@@ -22,6 +22,8 @@ SPLINE_POINTS_MOST = 500
 EXTERNAL, INVISIBLE, CONSTANT = 4 | 8, 1, 2
 # Marks the frame of a fitted polyline, which is not drawn.
 FRAME = 16
+# By so much, in degrees or radians, an arc may go past a whole turn and is still meant as one.
+TURN_DOUBT = 1e-3
 
 # The units of the header's $INSUNITS that have one length, in hundredths of a millimetre.
 INSUNITS = {
@@ -46,8 +48,8 @@ def read(data, wish):
     with quiet(notices):
         try:
             file = File(data)
-            for message in file.losses():
-                undrawn.refuse(message)
+            for message, line in (*((message, 0) for message in file.losses()), *file.odd):
+                undrawn.refuse(message, (line, 0))
             unit, told_unit = (UNITS[wish.unit], wish.by_option()) if wish.unit else stated(data, file.document)
             layers = Layers(wish, file.document)
             layout, entities, choice = chosen(file.document, wish, layers, undrawn)
@@ -165,12 +167,16 @@ class Reader:
             raise Unusable(f"{named(insert)}: blocks in blocks go deeper than {BLOCKS_DEEP_MOST}")
         if insert.block() is None:
             raise Unusable(f"{named(insert)}: its block {insert.dxf.get('name', '')!r} is missing")
+        counts = sorted(insert.dxf.get(name, 1) for name in ("column_count", "row_count"))
+        if counts[0] < 0 or counts[0] == 0 and counts[1] > 1:
+            raise Unusable(f"{named(insert)}: its array has {counts[0]} by {counts[1]} places, which programs read in different ways")
         places, layer = max(1, insert.mcount), self.layer(insert, above)
         self.room_for(places)
         hidden = above.hidden or same(layer) in self.layers.frozen or bool(insert.dxf.get("invisible", 0))
         below = Above(above.on_paper, above.depth + 1, layer, hidden)
         self.undrawn_of(insert, below, places)
-        if insert.block().block.dxf.get("flags", 0) & EXTERNAL:
+        block = insert.block().block
+        if block.dxf.get("flags", 0) & EXTERNAL or block.dxf.get("xref_path", "") and not len(insert.block()):
             self.external(insert, above)
             return
         self.misplaced(insert)
@@ -272,7 +278,9 @@ class Reader:
         self.round(entity, 0.0, 360.0)
 
     def arc(self, entity):
-        first, last = self.needed(entity, "start_angle", "end_angle")
+        first, last, radius = self.needed(entity, "start_angle", "end_angle", "radius")
+        if radius < 0:
+            raise Unusable(f"{named(entity)}: its radius is below 0, which programs read in different ways")
         self.round(entity, first, last)
 
     def round(self, entity, first, last):
@@ -280,8 +288,10 @@ class Reader:
         centre, radius = self.needed(entity, "center", "radius")
         if not (math.isfinite(first) and math.isfinite(last)):
             raise Unusable(f"{named(entity)} has an angle that is no number")
+        if last - first > 360 + TURN_DOUBT:
+            raise Unusable(f"{named(entity)} goes around more than once: from {first:g} to {last:g} degrees")
         side, size = self.side(entity), float(self.hundredths(abs(radius)))
-        # What goes around more than once is whole; so is an arc that ends where it begins.
+        # What goes around by a hair more than once is whole; so is an arc that ends where it begins.
         sweep = 360.0 if last - first >= 360 else (last - first) % 360 or 360.0
         middle = floats(self.own(entity, centre, side))
         self.curves.append(Arc(middle, (side * size, 0.0), (0.0, size), math.radians(first % 360), math.radians(sweep)))
@@ -291,6 +301,8 @@ class Reader:
         first, last = entity.dxf.get("start_param", 0.0), entity.dxf.get("end_param", math.tau)
         if not all(math.isfinite(number) for number in (first, last, ratio)):
             raise Unusable(f"{named(entity)} has a number that is none")
+        if last - first > math.tau + TURN_DOUBT:
+            raise Unusable(f"{named(entity)} goes around more than once: from {first:g} to {last:g}")
         side = self.side(entity)
         u = floats(self.flat(entity, major))
         v = (-side * ratio * u[1], side * ratio * u[0])
@@ -344,7 +356,12 @@ class Reader:
             raise Unusable(f"its splines have more than {SPLINE_POINTS_MOST:,} control points; {twice}")
         points = tuple(self.flat(entity, point) for point in entity.control_points)
         weights = tuple(map(float, entity.weights)) or (1.0,) * len(points)
-        self.curves.append(Spline(entity.dxf.degree, tuple(map(float, entity.knots)), points, weights))
+        knots = tuple(map(float, entity.knots))
+        if len(knots) == count + degree + 1 and any(
+            knots[at] >= knots[count] or knots[at + degree + 1] <= knots[degree] for at in range(count)
+        ):
+            raise Unusable(f"{named(entity)} has control points that its knots leave out, and programs draw it in different ways")
+        self.curves.append(Spline(degree, knots, points, weights))
 
 
 def moved(entity, matrix):

@@ -11,6 +11,7 @@ from collections import Counter
 from dataclasses import dataclass, field
 
 from .curves import Findings, Unusable
+from .dxf_odd import Oddities
 
 BINARY = b"AutoCAD Binary DXF\r\n\x1a\x00"
 BYTE_ORDER_MARK = b"\xef\xbb\xbf"
@@ -46,10 +47,9 @@ def beginning(lines):
 
 
 def int_of(code):
-    try:
-        return int(code)
-    except ValueError:
-        return None
+    """A group code, or none where it is no whole number; Python's int takes more for one."""
+    text = code.decode("latin-1") if isinstance(code, bytes) else code
+    return int(text) if re.fullmatch(r"\s*-?[0-9]{1,5}\s*", text, re.ASCII) else None
 
 
 @dataclass(frozen=True)
@@ -161,7 +161,9 @@ class File:
             start = beginning(lines) or 0
             pairs = pairs_of(lines, start)
         try:
+            pairs = list(pairs)
             self.tags, last = walked(pairs)
+            self.odd = Oddities((line, code, value) for line, code, value in pairs if code is not None).found
             self.document = loaded(data, lines[start:])
         except Exception as error:  # ezdxf raises what comes: KeyError, TypeError, its own
             raise unreadable(data, error) from error
@@ -201,7 +203,7 @@ class File:
     def losses(self):
         """What of the file ezdxf has not loaded, as messages."""
         for name, count in Counter(self.tags.sections).items():
-            if count > 1 and name in ("ENTITIES", "BLOCKS"):
+            if count > 1 and name in ("ENTITIES", "BLOCKS", "HEADER"):
                 yield f"the section {name} stands there {count} times, and one of them is read"
         blocks = Counter(entity.pairs.get(2, "").casefold() for entity in self.tags.entities if entity.name == "BLOCK")
         for name, count in blocks.items():

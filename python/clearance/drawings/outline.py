@@ -37,7 +37,10 @@ def outline_of(curves, within):
     """The outline of a drawing's curves, whose cubics stay within so many hundredths of them before they are rounded."""
     parts = []
     for curve in curves:
-        parts += pieces(curve, within)
+        try:
+            parts += pieces(curve, within)
+        except (ArithmeticError, IndexError) as error:
+            raise Unusable("a curve in it has numbers too far apart to be followed") from error
         if len(parts) > PIECES_MOST:
             raise Unusable(f"it has more than {PIECES_MOST:,} edges")
     long = [piece for piece in parts if any(point != piece.control[0] for point in piece.control)]

@@ -113,6 +113,8 @@ class Structure:
             return
         self.count_clone(element, where)
         styles = self.styles.of(element, where.originals[-1] if where.originals else None)
+        if "all" in styles:
+            raise Fault("the property all in a style is not read: take it away")
         if not self.is_displayed(element, styles):
             self.hidden += self.shapes_in(element)
             return
@@ -213,8 +215,6 @@ class Structure:
         for name in STYLED.get(element.name, ()):
             if name in styles and element is not self.document.root:
                 raise Fault(f"its {name} in a style is not read: write it as an attribute")
-        if "all" in styles:
-            raise Fault("the property all in a style is not read: take it away")
 
     def check_paint(self, element, where):
         """Markers and patterns."""
@@ -225,8 +225,8 @@ class Structure:
                 self.beside("pattern", element, f"its {name} is a pattern, which makes no edges")
 
     def refers(self, value, wanted, unwanted=()):
-        """Whether a value refers to another file, or to an element of the wanted kind that is there and not empty."""
-        if value is None or "url(" not in value.lower():
+        """Whether a value refers to another file, or to an element of the wanted kind that is there and not empty; var() may."""
+        if value is None or not re.search(r"(?:url|var)\(", value, re.IGNORECASE):
             return False
         match = LOCAL.search(value)
         if match is None:

@@ -9,7 +9,8 @@ from functools import lru_cache
 from .curves import FINENESS
 from .svg_numbers import SPACE, Fault, numbers
 
-TRANSFORM = re.compile(r"[\s,]*(matrix|translate|scale|rotate|skewX|skewY)\s*\(([^()]*)\)", re.ASCII)
+# One function, with the white space or the one comma before it; programs differ on more commas, and none stands in front.
+TRANSFORM = re.compile(r"\s*(,?)\s*(matrix|translate|scale|rotate|skewX|skewY)\s*\(([^()]*)\)", re.ASCII)
 # How many numbers a transform may have.
 TRANSFORM_NUMBERS = {"matrix": (6,), "translate": (1, 2), "scale": (1, 2), "rotate": (1, 3), "skewX": (1,), "skewY": (1,)}
 # More binary places than this are rounded off, to the second number: they come from turns, whose numbers are doubles.
@@ -118,10 +119,10 @@ def transform_of(text):
     at, found = 0, SAME
     while SPACE.match(text, at).end() < len(text):
         match = TRANSFORM.match(text, at)
-        values = numbers(match[2]) if match else None
-        if values is None or len(values) not in TRANSFORM_NUMBERS[match[1]]:
+        values = numbers(match[3]) if match and not (match[1] and at == 0) else None
+        if values is None or len(values) not in TRANSFORM_NUMBERS[match[2]]:
             raise Fault(f"its transform {text[:40]!r} is none that is read")
-        found = placed(found, one_map(match[1], values))
+        found = placed(found, one_map(match[2], values))
         at = match.end()
     return found
 
