@@ -120,9 +120,10 @@ def say_beside(given):
     taken = {os.path.abspath(path) for path, _ in given.sheets}
     told = set()
     for path, _ in given.sheets:
-        for part, names in parts.naming(path) if path != "-" else ():
+        for part, names, is_own in parts.naming(path) if path != "-" else ():
             if part not in told and not taken.issuperset(map(os.path.abspath, names)):
-                console.say(f"{path} is one of {len(names)} sheets of {part}: give {part} for the whole part")
+                whole = f"give {part} for the whole part" if is_own else "it has been changed since, and the part is to be made anew"
+                console.say(f"{path} is {'one' if is_own else 'named as one'} of {len(names)} sheets of {part}: {whole}")
                 told.add(part)
 
 

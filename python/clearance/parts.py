@@ -302,17 +302,18 @@ LOOKED_MOST = 50
 
 
 def naming(path):
-    """The parts beside a sheet that name it, each with the paths of all its sheets."""
+    """The parts beside a sheet that name it, each with the paths of all its sheets, and whether the sheet is as the part has it."""
     folder, sheet = os.path.split(path)
     found = []
     for name in beside(folder, sheet)[:LOOKED_MOST]:
         part = os.path.join(folder, name)
         try:
-            listed = [other for other, _ in read_part(read_file(part)).sheets]
+            listed = dict(read_part(read_file(part)).sheets)
+            is_own = sheet in listed and digest(read_file(path)) == listed[sheet]
         except (OSError, BadPart):
             continue
         if sheet in listed:
-            found.append((part, [os.path.join(folder, other) for other in listed]))
+            found.append((part, [os.path.join(folder, other) for other in listed], is_own))
     return found
 
 

@@ -206,6 +206,12 @@ class Verbs(Case):
             # What was asked for is answered all the same.
             self.assertTrue(out or verb == "explain", verb)
 
+    def test_a_sheet_that_was_changed_is_told_so(self):
+        part = self.write()
+        sheet = self.folder.file("F-2.sheet", BRACKET.to_sheet())
+        wanted = f"{sheet} is named as one of 3 sheets of {part}: it has been changed since, and the part is to be made anew\n"
+        self.assertEqual(command("map", sheet)[2], f"clearance: {wanted}")
+
     def test_nothing_is_said_where_all_are_given(self):
         self.write()
         one, *others = self.sheets()
