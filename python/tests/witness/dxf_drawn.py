@@ -6,6 +6,7 @@ it, so those polylines come with how far they may be off.
 """
 
 import json
+import math
 import re
 import shutil
 import subprocess
@@ -75,5 +76,12 @@ def geometry_lines(geometry, filled):
 
 def off_curve(line):
     """How far a smooth curve may be from a polyline through points of it. Where steps are even, its chords are off by a quarter of
-    what a corner is off the chord of its neighbours; four times that is allowed."""
-    return max((from_segment(b, a, c) for a, b, c in zip(line, line[1:], line[2:])), default=0.0)
+    what a corner is off the chord of its neighbours; four times that is allowed. Where the curve turns back within a step, it may
+    have gone on by half of that step."""
+    return max((max(from_segment(b, a, c), turned_back(a, b, c)) for a, b, c in zip(line, line[1:], line[2:])), default=0.0)
+
+
+def turned_back(a, b, c):
+    """Half of the longer of two steps that go against each other, or 0."""
+    (ux, uy), (vx, vy) = ((q[0] - p[0], q[1] - p[1]) for p, q in ((a, b), (b, c)))
+    return max(math.hypot(ux, uy), math.hypot(vx, vy)) / 2 if ux * vx + uy * vy < 0 else 0.0
