@@ -662,13 +662,13 @@ class Verb(Case):
         for words in (["--plate", "0", "0"], ["--plate", "0", "0", "0"], ["--plate", "0", "0", "x"], ["--at", "0.005", "0"]):
             self.assertEqual(ran(path, "--reach", "2.5", *words)[0], 2, words)
 
-    @needs_svgelements
     def test_a_drawing_is_not_written_over(self):
         path = self.file("part.svg", svg_file('<path d="M0 0L5 0"/>'))
         before = path.read_bytes()
         self.assertEqual(ran(path, "--reach", "1", "-o", path)[0], 2)
         self.assertEqual(path.read_bytes(), before)
 
+    @needs_svgelements
     def test_what_is_said(self):
         shapes = '<path d="M0 0L5 0L10 0L10 10"/><path d="M20 5L20 5"/><text>x</text>'
         status, out, err = ran(self.file("part.svg", svg_file(shapes)), "--reach", "2.501", "--leave-out", "text")
