@@ -1,1 +1,2 @@
 // Definitions only: see specs/Lib.antt.
+#![tactic(auto)]

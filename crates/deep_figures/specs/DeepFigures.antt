@@ -1,6 +1,6 @@
 -- RULES, "Figures": those of trees of 2,047 nodes but for the first ones, which tell depth 10 from 9 and stand in `model`. Everything is computed.
 -- Assumes nothing.
-use Rattle.std.specs.Prelude.{◌≡◌, refl, List, [], ◌∷◌, pos, negsuc}
+use Rattle.std.specs.Prelude.{refl, List, [], ◌∷◌, pos, negsuc}
 use Rattle.basics.specs.Numbers.{absℤ}
 use Rattle.model.specs.Refusals.{accepted}
 use Rattle.model.specs.Jobs.{between, coordinate, is_zero, placed, is_one, spare, kind, marked, counted, ranged, celled, edges_from, outline}

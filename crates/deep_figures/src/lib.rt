@@ -1,1 +1,2 @@
 // Figures only: see specs/Lib.antt.
+#![tactic(auto)]

@@ -64,17 +64,16 @@ module _ (v : Cell → Strip → Answer) (c d : Cell) (part : PartOf d c) where
       let i = join_away (explore (v c) t) (explore_all (v c) ts) e in
       both_away (explore (v d) t) (explore_all (v d) ts) (k.0.away_too c d part i.0) (all_away_part ts k.1 i.1)
 
-  -- left out or kept, a tree that is away for c does not count for d
-  kept : (a : Answer) (t : Tree) (ts us : List Tree) → (a ≡ away → explore (v d) t ≡ away) → explore_all (v d) ts ≡ explore_all (v d) us → explore_all (v d) (keep a t ts) ≡ join (explore (v d) t) (explore_all (v d) us)
-  unfolding explore_all
-  kept inside t ts us f e = ap (λ x. join (explore (v d) t) x) e
-  kept away t ts us f e = e ∙ ap (λ x. join x (explore_all (v d) us)) (sym (f refl))
-  kept maybe t ts us f e = ap (λ x. join (explore (v d) t) x) e
-
   pub leave_out : (ts : List Tree) → EachInherits v ts → explore_all (v d) (opened (v c) ts) ≡ explore_all (v d) ts
   unfolding opened explore_all
   leave_out [] k = refl
   leave_out (t ∷ ts) k = kept (explore (v c) t) t (opened (v c) ts) ts (k.0.away_too c d part) (leave_out ts k.1)
+    where
+      -- left out or kept, a tree that is away for c does not count for d
+      kept : (a : Answer) (t : Tree) (ts us : List Tree) → (a ≡ away → explore (v d) t ≡ away) → explore_all (v d) ts ≡ explore_all (v d) us → explore_all (v d) (keep a t ts) ≡ join (explore (v d) t) (explore_all (v d) us)
+      kept inside t ts us f e = ap (λ x. join (explore (v d) t) x) e
+      kept away t ts us f e = e ∙ ap (λ x. join x (explore_all (v d) us)) (sym (f refl))
+      kept maybe t ts us f e = ap (λ x. join (explore (v d) t) x) e
 
   -- the letter of a part, where the whole is not maybe: its own is the whole's
   pub part_settled : (ts : List Tree) → EachInherits v ts → (a : Answer) → explore_all (v c) ts ≡ a → (x : Verdict) → x ≡ settled (explore_all (v d) ts) doubtful → settled a x ≡ settled (explore_all (v d) ts) doubtful
@@ -83,12 +82,12 @@ module _ (v : Cell → Strip → Answer) (c d : Cell) (part : PartOf d c) where
   part_settled ts k maybe e x l = l
 
 -- the trees that are still open inherit too
-keep_each : (v : Cell → Strip → Answer) (a : Answer) (t : Tree) (ts : List Tree) → Inherits v t → EachInherits v ts → EachInherits v (keep a t ts)
-keep_each v inside t ts h k = (h, k)
-keep_each v away t ts h k = k
-keep_each v maybe t ts h k = (h, k)
-
 pub opened_inherits : (v : Cell → Strip → Answer) (a : Strip → Answer) (ts : List Tree) → EachInherits v ts → EachInherits v (opened a ts)
 unfolding opened
 opened_inherits v a [] k = tt
 opened_inherits v a (t ∷ ts) k = keep_each v (explore a t) t (opened a ts) k.0 (opened_inherits v a ts k.1)
+  where
+    keep_each : (v : Cell → Strip → Answer) (a : Answer) (t : Tree) (ts : List Tree) → Inherits v t → EachInherits v ts → EachInherits v (keep a t ts)
+    keep_each v inside t ts h k = (h, k)
+    keep_each v away t ts h k = k
+    keep_each v maybe t ts h k = (h, k)

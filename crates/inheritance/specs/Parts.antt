@@ -6,7 +6,7 @@ use Rattle.std.proofs.Math.Bool.{◌&&◌}
 use Rattle.std.specs.Int.Signed.{le_z}
 use Rattle.std.proofs.Math.IntN.{ℤ, pos}
 use Rattle.integers.specs.RingSolver.{name₂, name₃, name₈, name₁₀, name₁₂, reify}
-use Rattle.integers.specs.Order.{◌≼◌, ◌≺◌, ◌⊞◌, ◌⊠◌, gap}
+use Rattle.integers.specs.Order.{◌≼◌, ◌⊞◌, ◌⊠◌, gap}
 use Rattle.integers.specs.Omega.{zarith}
 use Rattle.integers.specs.Inequalities.{from, ◌&◌, ≼_trans, ≼_≺_trans, ≼_*, ≼_+}
 use Rattle.integers.specs.Signed.{nat_abs_neg}

@@ -12,7 +12,8 @@ use Rattle.model.specs.Explore.{Cell, inside, away, is_inside, is_away₁, is_aw
 use Rattle.enclosure.specs.Covers.{In}
 use Rattle.verdicts.specs.AnswerCases.{clash, tests_inside, tests_away}
 use Rattle.verdicts.specs.Apart.{InCell}
-use Rattle.verdicts.specs.Tests.{AllCloser, AllClear, AllAtLeast, AllAtMost, reach_sound, away_means}
+use Rattle.verdicts.specs.Tests.{AllCloser, AllClear, AllAtLeast, AllAtMost}
+use Rattle.verdicts.proofs.Tests.{reach_sound, away_means}
 use Rattle.verdicts.specs.Trees.{Sound}
 use Rattle.inheritance.specs.Parts.{PartOf, inside_part, away₁_part, away₂_part}
 use Rattle.inheritance.specs.Trees.{Judges}

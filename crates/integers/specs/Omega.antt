@@ -1,6 +1,6 @@
 -- Arithmetic over ℤ by `omega`. A fact e ≤ f over ℤ is multiplied out, f − e into a sum of terms; each monomial's value is the difference of two natural numbers,
 -- its parts, which are `omega`'s atoms. So `omega` finds which multiples of the facts prove a goal, also where the facts and the goal have products of variables:
--- a monomial is one unknown, whichever way it was written. `rd-..` read a fact, `wr-..` prove one; `omega` takes them as rules:
+-- a monomial is one unknown, whichever way it was written. `rd_..` read a fact, `wr_..` prove one; `omega` takes them as rules:
 -- `name₂ x y λ σ p q. simp (p, q, reify, σ) (omega (arith, lin))` proves an implication, its facts standing left of `→` in the goal. Assumes nothing.
 use Rattle.std.specs.Prelude.{◌≡◌, refl, Bool, true, false, ◌&&◌, List, [], ◌∷◌, ℕ, zero, suc, ◌+◌, ◌*◌, ◌≤◌, ◌<◌, T, ℤ, pos, negsuc, neg_ℤ, ◌+ℤ◌, ◌-ℤ◌, ◌*ℤ◌, nat_abs}
 use Rattle.std.proofs.Common.{sym, ◌∙◌, ap, ap₂, subst, arith, leb→le, le→leb, ltb→lt, lt→ltb}

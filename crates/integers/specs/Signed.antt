@@ -159,10 +159,10 @@ sized {u} {x} {A} B m t = rw (back m) (le_trans m.within (leb→le A B t))
 -- ---- a value read back from its bits is itself: of a call's result r with `c.f.ok`, of an element with `c.x.given`
 
 pub read32 : (z : ℤ) → mag z < 2 ^ 31 → to_z w32 (of_z w32 z) ≡ z
-read32 z h = to_z-of_z (record { sfits = h })
+read32 z h = to_z-of_z {w = w32} (record { sfits = h })
 
 pub read64 : (z : ℤ) → mag z < 2 ^ 63 → to_z w64 (of_z w64 z) ≡ z
-read64 z h = to_z-of_z (record { sfits = h })
+read64 z h = to_z-of_z {w = w64} (record { sfits = h })
 
 -- a test `y == z` tells that the bits are the same, and so are the numbers
 pub same32 : (y z : ℤ) → mag y < 2 ^ 31 → mag z < 2 ^ 31 → of_z w32 y ≡ of_z w32 z → y ≡ z

@@ -201,40 +201,6 @@ doubted p q R G M f n = record {
     agreed doubtful h = absurd h
     agreed mixed h = ((λ e. absurd (unlike doubtful mixed tt e)), (λ f. absurd (f refl)))
 
--- where the exact verdict is clear it may say so
-cleared : Demand3 (only O) (pair five five) (pos 5) (pos 2) 1 clear
-unfolding Clear Inside
-cleared = record {
-  not_mixed = unlike clear mixed tt;
-  if_clear = λ e. far O five five _ (record { least = record { le = tt } }) (record { least = record { le = tt } });
-  if_inside = λ e. absurd (unlike clear within tt e);
-  if_doubtful = λ e. absurd (unlike clear doubtful tt e);
-  agrees = agreed;
-}
-  where
-    agreed : (v : Verdict) → Exact (only O) (pair five five) (pos 5) v → (clear ≡ v) ↔ (clear ≡ doubtful → ⊥)
-    agreed clear h = ((λ e. unlike clear doubtful tt), (λ f. refl))
-    agreed within h = absurd (nearer O five _ (h five (inr refl))).closer.lt
-    agreed doubtful h = absurd h
-    agreed mixed h = absurd (h.0 (far O five five _ (record { least = record { le = tt } }) (record { least = record { le = tt } })))
-
--- and so of inside
-entered : Demand3 (only O) (pair five five) (pos 6) (pos 2) 1 within
-unfolding Clear Inside
-entered = record {
-  not_mixed = unlike within mixed tt;
-  if_clear = λ e. absurd (unlike within clear tt e);
-  if_inside = λ e. near O five five _ (record { closer = record { lt = tt } }) (record { closer = record { lt = tt } });
-  if_doubtful = λ e. absurd (unlike within doubtful tt e);
-  agrees = agreed;
-}
-  where
-    agreed : (v : Verdict) → Exact (only O) (pair five five) (pos 6) v → (within ≡ v) ↔ (within ≡ doubtful → ⊥)
-    agreed clear h = absurd (h five (inl refl) O refl).least.le
-    agreed within h = ((λ e. unlike within doubtful tt), (λ f. refl))
-    agreed doubtful h = absurd h
-    agreed mixed h = absurd (h.1 (near O five five _ (record { closer = record { lt = tt } }) (record { closer = record { lt = tt } })))
-
 pub allowed_holds : AllHold Holds allowed_figures
 unfolding Clear Inside NoCloser SomeNear
 allowed_holds =
@@ -249,3 +215,35 @@ allowed_holds =
     and (λ h. (h.if_clear refl five (inl refl) O refl).least.le)
     and entered
     and tt
+  where
+    -- where the exact verdict is clear it may say so
+    cleared_agreed : (v : Verdict) → Exact (only O) (pair five five) (pos 5) v → (clear ≡ v) ↔ (clear ≡ doubtful → ⊥)
+    cleared_agreed clear h = ((λ e. unlike clear doubtful tt), (λ f. refl))
+    cleared_agreed within h = absurd (nearer O five _ (h five (inr refl))).closer.lt
+    cleared_agreed doubtful h = absurd h
+    cleared_agreed mixed h = absurd (h.0 (far O five five _ (record { least = record { le = tt } }) (record { least = record { le = tt } })))
+
+    cleared : Demand3 (only O) (pair five five) (pos 5) (pos 2) 1 clear
+    cleared = record {
+      not_mixed = unlike clear mixed tt;
+      if_clear = λ e. far O five five _ (record { least = record { le = tt } }) (record { least = record { le = tt } });
+      if_inside = λ e. absurd (unlike clear within tt e);
+      if_doubtful = λ e. absurd (unlike clear doubtful tt e);
+      agrees = cleared_agreed;
+    }
+
+    -- and so of inside
+    entered_agreed : (v : Verdict) → Exact (only O) (pair five five) (pos 6) v → (within ≡ v) ↔ (within ≡ doubtful → ⊥)
+    entered_agreed clear h = absurd (h five (inl refl) O refl).least.le
+    entered_agreed within h = ((λ e. unlike within doubtful tt), (λ f. refl))
+    entered_agreed doubtful h = absurd h
+    entered_agreed mixed h = absurd (h.1 (near O five five _ (record { closer = record { lt = tt } }) (record { closer = record { lt = tt } })))
+
+    entered : Demand3 (only O) (pair five five) (pos 6) (pos 2) 1 within
+    entered = record {
+      not_mixed = unlike within mixed tt;
+      if_clear = λ e. absurd (unlike within clear tt e);
+      if_inside = λ e. near O five five _ (record { closer = record { lt = tt } }) (record { closer = record { lt = tt } });
+      if_doubtful = λ e. absurd (unlike within doubtful tt e);
+      agrees = entered_agreed;
+    }

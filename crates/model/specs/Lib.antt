@@ -1,6 +1,6 @@
 -- The rules as definitions: docs/RULES.md has a section for each file, in this order. This, and `basics` before it, is what a reader has to
--- believe; all else in the repository is proved of it. The words that both are written in are the kit's: ℕ, ℤ, their operations and tests (`Prim.Native.Nat`,
--- `lib.IntN`, `lib.Signed`, `lib.Dec`), lists (`mathlib.Core.List`, `lib.ListN`), equality and logic (`mathlib.Core`), a string's bytes.
+-- believe; all else in the repository is proved of it. The words that both are written in are the kit's: ℕ, ℤ, their operations and tests, lists, equality
+-- and logic (`Rattle.std.specs.Prelude`, `Rattle.std.specs.Int.Signed`), a string's bytes.
 -- Each file is one concern. Nothing here is proved beyond what a definition needs, apart from the last files, in which worked figures hold of
 -- the definitions.
 
@@ -46,6 +46,7 @@ pub mod StripFigures
 pub mod BoxFigures
 pub mod PlateFigures
 pub mod EntryFigures
+pub mod GridFigures
 pub mod CaseFigures
 pub mod PointFigures
 pub mod ExactFigures

@@ -13,7 +13,7 @@ use Rattle.integers.specs.Tests.{le_true, or_true, or_yes}
 use Rattle.model.specs.declared.Job.{Job}
 use Rattle.model.specs.Jobs.{Edge, between, coordinate, coordinates, is_zero, is_one, spare, kind, placed, marked, counted, ranged, celled, edge_at, edges_from, outline}
 use Rattle.model.specs.Strips.{strip, short}
-use Rattle.model.specs.Trees.{Tree, leaf, long, node, pieces, tree, trees, is_long, any_long}
+use Rattle.model.specs.Trees.{leaf, long, node, pieces, tree, trees, is_long, any_long}
 use Rattle.model.specs.Store.{forest, store_of, begins}
 use Rattle.model.specs.Entries.{spots_in, spots_fit}
 use Rattle.model.specs.Cases.{EdgesCase, Outside, Strays, PlaceCase, MarkCase, RangeCase, SpotCase, RowCase, CellCase, Reached, LongPiece, LongCase, StrangerCase, SheafCase}

@@ -1,5 +1,5 @@
 -- Every strip of every piece of an edge, every tree and every job's trees are within the sizes of `Sizes`. Assumes nothing.
-use Rattle.std.specs.Prelude.{◌≡◌, Bool, true, false, List, [], ◌∷◌, ℕ, zero, suc, ◌+◌, ◌*◌, ◌^◌, ◌≤◌, ◌<◌, ℤ, ◌-ℤ◌}
+use Rattle.std.specs.Prelude.{◌≡◌, Bool, true, false, List, [], ◌∷◌, ℕ, zero, suc, ◌+◌, ◌*◌, ◌^◌, ◌≤◌, ◌<◌, ℤ}
 use Rattle.std.proofs.Common.{add-one, pow-suc, arith, pow_pos}
 use Rattle.model.specs.Jobs.{Component, cubic, line, Edge}
 use Rattle.model.specs.Strips.{Strip, denominator, middle, power_of, side_at, strip, short}

@@ -16,7 +16,7 @@ use Rattle.ranges.specs.Refusals.{tells}
 use Rattle.ranges.specs.Legal.{Between, natural, legal}
 use Rattle.sheet_text.specs.Numbers.{text_short, text_long}
 use Rattle.sheet_text.specs.Optional.{stated_within}
-use Rattle.sheet_text.specs.Code.{head_of, headText, codeText, sheet-as-code, edges-long, end-long}
+use Rattle.sheet_text.specs.Code.{head_of, head_text, code_text, sheet_as_code, edges_long, end_long}
 
 -- the most bytes that the sheet of a legal job takes
 abbrev pub room : ℕ
@@ -46,8 +46,8 @@ grain_line a = simp length-append (omega arith)
 
 -- ---- a legal job's
 module _ (j : Job) (ok : judge j ≡ 0) where
-  pub head_most : length (headText (head_of j)) ≤ 60
-  unfolding headText write_form job_form
+  pub head_most : length (head_text (head_of j)) ≤ 60
+  unfolding head_text write_form job_form
   head_most =
       let r = (legal j ok).in_range in
       simp length-append (omega (
@@ -64,7 +64,7 @@ module _ (j : Job) (ok : judge j ≡ 0) where
   grain_most = stated_within grain_form default_grain j.grain 15 (omega (arith, grain_line j.grain, range_short 5 1 100000 j.grain (omega arith) (lit< tt) (legal j ok).in_range.grain_in))
 
   pub sheet_most : 8 * j.count ≤ length j.places → length (sheet_of j) ≤ room
-  sheet_most h = rw (sheet-as-code j h) (unfold codeText in simp length-append (omega (arith, head_most, grain_most, edges-long j.count j.marks j.places, end-long, (legal j ok).few)))
+  sheet_most h = rw (sheet_as_code j h) (unfold code_text in simp length-append (omega (arith, head_most, grain_most, edges_long j.count j.marks j.places, end_long, (legal j ok).few)))
 
 pub sheet_room : SheetRoom
 unfolding write_refusal judge

@@ -28,7 +28,7 @@ use Rattle.sheet_text.specs.Sheets.{sheet_text_is, text_sheet}
 use Rattle.sheet_text.specs.Optional.{Stated, stated_cases, stated_out, stated_back, stated_fits, none_or_one}
 use Rattle.sheet_text.specs.Jobs.{head_small, edges_small, placed_past, marked_past}
 use Rattle.sheet_text.specs.Places.{edge_forms, edges_count, edges_fit, edges_places, edges_marks, edges_back, places_long, marks_long, fit_is, fit_kept, spread, line_back}
-use Rattle.sheet_text.specs.Code.{one_line, sheet-long}
+use Rattle.sheet_text.specs.Code.{one_line, sheet_long}
 
 -- ---- the numbers of each form
 plate_marks : marks plate_form ≡ 3
@@ -128,7 +128,7 @@ job_kept j w h =
     ∙ accepted_answer j (judge j) h
   where
     kept_sheet : (j : Job) → Legal j → 8 * j.count ≤ length j.places → read_sheet (sheet_of j) ≡ lines (lines_of j)
-    kept_sheet j l m = let s = sheet-long j m l.few in unfold sheet_of in sheet_text_is (lines_of j) (legal_fits j l m) (omega arith)
+    kept_sheet j l m = let s = sheet_long j m l.few in unfold sheet_of in sheet_text_is (lines_of j) (legal_fits j l m) (omega arith)
 
 -- ---- an accepted sheet, read and written
 edges_again : (es : Lines) → AllLines edge_forms es → length es ≤ 64 → edge_lines (length es) (fit 64 (marks_of es)) (fit 512 (places_of es)) ≡ es

@@ -1,6 +1,6 @@
 -- How near a point is to upright boxes: of a strip's it is what the bounds of a point take of the strip, of a tree's it is no more than that of any of its leaves, and no leaf is
 -- nearer than far. Assumes nothing.
-use Rattle.std.specs.Prelude.{◌≡◌, ◌⊎◌, ◌≤◌, ℤ, pos, nat_abs, neg_ℤ, ◌+ℤ◌, ◌-ℤ◌}
+use Rattle.std.specs.Prelude.{◌≡◌, ◌≤◌, ℤ, pos, nat_abs, neg_ℤ, ◌+ℤ◌, ◌-ℤ◌}
 use Rattle.std.proofs.Math.Path.{refl, subst}
 use Rattle.std.proofs.Common.{sym, ap, ap₂, inl, inr, ⊎_elim, arith, lit<}
 use Rattle.integers.specs.RingSolver.{name₃, name₅, reify}

@@ -1,1 +1,2 @@
 // Laws only: the subtree of a piece as code walks it, and lists that begin with a tree in preorder.
+#![tactic(auto)]

@@ -5,10 +5,9 @@ pub mod Apart
 pub mod Distances
 pub mod Roots
 pub mod Tests
--- whatever covers: a tree, the edges
+-- whatever covers: a tree; of the edges see proofs/Cells
 pub mod Trees
-pub mod Cells
--- a job: what its acceptance says, the plate's quartering, demand 3, the bounds of a point
+-- a job: what its acceptance says, the plate's quartering, what demand 3 rests on, the bounds of a point; demand 3 is proofs/DemandThree
 pub mod Quartering
 pub mod DemandThree
 pub mod PointBounds

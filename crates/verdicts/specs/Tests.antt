@@ -1,28 +1,27 @@
 -- What the three tests mean for a point in the strip and a point in the cell: passed, and failed. Assumes nothing.
-use Rattle.std.specs.Prelude.{◌≡◌, refl, true, false, ◌||◌, ℕ, zero, suc, ◌⊎◌, ℤ, negsuc, nat_abs, ◌+ℤ◌, ◌-ℤ◌, ◌*ℤ◌}
+use Rattle.std.specs.Prelude.{◌≡◌, refl, true, false, ℕ, zero, suc, ◌⊎◌, ℤ, negsuc, nat_abs, ◌+ℤ◌, ◌-ℤ◌, ◌*ℤ◌}
 use Rattle.std.proofs.Common.{sym, subst}
 use Rattle.std.proofs.Math.Logic.{inl, inr, ⊎_elim}
 use Rattle.std.proofs.Math.IntN.{pos, zero-*ℤ}
 use Rattle.std.specs.Int.Signed.{le_z, le_z_yes, pos-nat_abs, yes_non_neg}
-use Rattle.integers.specs.RingSolver.{◌^ℤ◌, name₂, name₄, reify}
-use Rattle.integers.specs.Order.{◌≼◌, ◌≺◌, num, num⁺, ◌⊞◌, ◌⊠◌, gap, sq, pos_≼, ≼_refl}
+use Rattle.integers.specs.RingSolver.{◌^ℤ◌, name₂, reify}
+use Rattle.integers.specs.Order.{◌≼◌, ◌≺◌, num, num⁺, ◌⊞◌, sq, pos_≼, ≼_refl}
 use Rattle.integers.specs.Omega.{zarith}
-use Rattle.integers.specs.Inequalities.{from, ◌&◌, weak, split≼, ◌⊠⁺◌, ◌⊞⁺◌, ≺_≼_trans}
+use Rattle.integers.specs.Inequalities.{weak, split≼, ◌⊠⁺◌, ◌⊞⁺◌, ≺_≼_trans}
 use Rattle.integers.specs.Absolute.{absℤ, abs_nonneg}
 use Rattle.model.specs.Fractions.{Frac, Point, dist², Closer, AtMost, AtLeast}
 use Rattle.model.specs.Exact.{Points}
 use Rattle.model.specs.Jobs.{is_zero}
 use Rattle.model.specs.Strips.{Strip, fits, short}
 use Rattle.model.specs.Roots.{root}
-use Rattle.model.specs.Explore.{Cell, farthest, at_least0, room, closest, farthest², closest², is_inside, is_away₁, is_away₂, length_of, has_axis, judged}
+use Rattle.model.specs.Explore.{Cell, farthest, at_least0, room, closest, farthest², closest², is_inside, is_away₁, is_away₂, length_of, has_axis}
 use Rattle.integers.specs.Within.{Within}
 use Rattle.enclosure.specs.Covers.{In}
-use Rattle.integers.specs.Tests.{lt_true, lt_false, le_true, le_false, or_true, or_false, both, not_both}
-use Rattle.verdicts.specs.AnswerCases.{clash, tests_inside, tests_away, tests_maybe}
+use Rattle.integers.specs.Tests.{lt_true, lt_false, le_true, le_false, both, not_both}
+use Rattle.verdicts.specs.AnswerCases.{clash}
 use Rattle.verdicts.specs.Apart.{InCell, apart_x, apart_y, apart_d, apart_up, apart_is, spread_x, spread_y}
-use Rattle.verdicts.specs.Distances.{reach_bound, gap_bound, most_squared, least_squared, below, above, across_far, band_upper, band_lower, grown_reach, grown_gap}
+use Rattle.verdicts.specs.Distances.{reach_bound, gap_bound, most_squared, least_squared, below, across_far, band_upper, band_lower, grown_reach, grown_gap}
 use Rattle.verdicts.specs.Roots.{root_reaches}
-use Rattle.verdicts.specs.Trees.{Sound}
 
 -- lengths in fine units, and in halves of them
 abbrev pub fine : ℤ → Frac
@@ -114,10 +113,6 @@ module _ (r : ℤ) (c : Cell) (S : Strip) (P Q : Point) (i : In S P) (j : InCell
   unfolding is_inside
   inside_means e = record { closer = below (dist² P Q).top (farthest² c S) (dist² P Q).low r (dist² P Q).up at_most_farthest (lt_true e) }
 
-  pub away₁_means : is_away₁ r c S ≡ true → AtLeast P Q (fine r)
-  unfolding is_away₁
-  away₁_means e = record { least = above (dist² P Q).top (closest² c S) (dist² P Q).low r (dist² P Q).up at_least_closest (le_true e) }
-
   pub away₂_means : pos 0 ≼ r → is_away₂ r c S ≡ true → AtLeast P Q (fine r)
   unfolding is_away₂
   away₂_means hr e = let k = both (has_axis S) (le_z (r *ℤ length_of S) _) e in record {
@@ -125,9 +120,6 @@ module _ (r : ℤ) (c : Cell) (S : Strip) (P Q : Point) (i : In S P) (j : InCell
         (across_far (apart_x P Q) (apart_y P Q) (apart_d P Q) i.e.low i.e.top (c.cx -ℤ S.x.centre) (c.cy -ℤ S.y.centre) S.x.axis S.y.axis (S.x.box +ℤ c.s) (S.y.box +ℤ c.s) r (length_of S)
         (apart_up P Q) i.e.up hr (length_above S k.0) (length_reaches S) (spread_x S c P Q i j) (spread_y S c P Q i j) (le_true k.1));
   }
-
-  pub away_means : pos 0 ≼ r → (is_away₁ r c S || is_away₂ r c S) ≡ true → AtLeast P Q (fine r)
-  away_means hr e = ⊎_elim away₁_means (away₂_means hr) (or_true (is_away₁ r c S) (is_away₂ r c S) e)
 
   -- ---- failed, where the strip is short
   module _ (T : ℤ) (sh : short T S ≡ true) where
@@ -172,32 +164,3 @@ AllAtLeast r T c P = (Q : Point) → InCell c Q → (pos 2 *ℤ r ≺ pos 3 *ℤ
 
 abbrev pub AllAtMost : ℤ → ℤ → Cell → Points
 AllAtMost r T c P = (Q : Point) → InCell c Q → AtMost P Q (half_fine (pos 2 *ℤ r +ℤ pos 3 *ℤ spill c.s T))
-
--- what is not closer than r is not closer than r − 3u/2; what is closer than r is at most r + 3u/2 away. t over d is the squared distance
-weaken_far : (r u t d : ℤ) → pos 0 ≼ r → pos 0 ≼ u → pos 0 ≺ d → pos 3 *ℤ u ≼ pos 2 *ℤ r → r *ℤ r *ℤ d ≼ t *ℤ (pos 16 *ℤ pos 16) → (pos 2 *ℤ r -ℤ pos 3 *ℤ u) *ℤ (pos 2 *ℤ r -ℤ pos 3 *ℤ u) *ℤ d ≼ t *ℤ (pos 32 *ℤ pos 32)
-weaken_far r u t d hr hu hd k h =
-    from (h & hu ⊠ gap k ⊠ weak hd & hu ⊠ hr ⊠ weak hd) (name₄ r u t d λ σ p q s v. simp (p, q, s, v, reify, σ) (omega zarith))
-
-weaken_close : (r u t d : ℤ) → pos 0 ≼ r → pos 0 ≼ u → pos 0 ≺ d → t *ℤ (pos 16 *ℤ pos 16) ≺ r *ℤ r *ℤ d → t *ℤ (pos 32 *ℤ pos 32) ≼ (pos 2 *ℤ r +ℤ pos 3 *ℤ u) *ℤ (pos 2 *ℤ r +ℤ pos 3 *ℤ u) *ℤ d
-weaken_close r u t d hr hu hd h =
-    from (h & hu ⊠ hr ⊠ weak hd & hu ⊠ hu ⊠ weak hd) (name₄ r u t d λ σ p q s v. simp (p, q, s, v, reify, σ) (omega zarith))
-
-module _ (r T : ℤ) (c : Cell) (hr : pos 0 ≼ r) (hu : pos 0 ≼ spill c.s T) where
-  far_is_lower : (P : Point) → AllClear r c P → AllAtLeast r T c P
-  far_is_lower P f Q j = ⊎_elim
-      (λ (l : pos 3 *ℤ spill c.s T ≼ pos 2 *ℤ r). inr (record { least = weaken_far r (spill c.s T) (dist² P Q).top (dist² P Q).low hr hu (dist² P Q).up l (f Q j).least }))
-      (λ (l : pos 2 *ℤ r ≺ pos 3 *ℤ spill c.s T). inl l)
-      (split≼ (pos 3 *ℤ spill c.s T) (pos 2 *ℤ r))
-
-  close_is_upper : (P : Point) → AllCloser r c P → AllAtMost r T c P
-  close_is_upper P f Q j = record { most = weaken_close r (spill c.s T) (dist² P Q).top (dist² P Q).low hr hu (dist² P Q).up (f Q j).closer }
-
-  pub reach_sound : Sound T (judged r c) (AllCloser r c) (AllClear r c) (AllAtLeast r T c) (AllAtMost r T c)
-  reach_sound = record {
-    if_inside = λ S P i e Q j. inside_means r c S P Q i j (tests_inside (is_inside r c S) (is_away₁ r c S || is_away₂ r c S) e);
-    if_away = λ S P i e Q j. away_means r c S P Q i j hr (tests_away (is_inside r c S) (is_away₁ r c S || is_away₂ r c S) e);
-    if_maybe_lower = λ S P i sh e Q j. not_inside_means r c S P Q i j T sh hu (tests_maybe (is_inside r c S) (is_away₁ r c S || is_away₂ r c S) e).0;
-    if_maybe_upper = λ S P i sh e Q j. not_away_means r c S P Q i j T sh hr hu (or_false (is_away₁ r c S) (is_away₂ r c S) (tests_maybe (is_inside r c S) (is_away₁ r c S || is_away₂ r c S) e).1).0;
-    far_lower = far_is_lower;
-    near_upper = close_is_upper;
-  }

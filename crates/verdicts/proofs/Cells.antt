@@ -8,7 +8,8 @@ use Rattle.model.specs.Trees.{Tree}
 use Rattle.model.specs.Explore.{Cell, inside, away, maybe, judged, explore_all}
 use Rattle.enclosure.specs.Covers.{CoversAll}
 use Rattle.verdicts.specs.AnswerCases.{maybe≢inside, maybe≢away}
-use Rattle.verdicts.specs.Tests.{AllCloser, AllClear, AllAtLeast, AllAtMost, reach_sound}
+use Rattle.verdicts.specs.Tests.{AllCloser, AllClear, AllAtLeast, AllAtMost}
+use Rattle.verdicts.proofs.Tests.{reach_sound}
 use Rattle.verdicts.specs.Trees.{Sound, AllShorts, all_inside, all_away, all_lower, all_upper}
 
 module _ (S : Points) (ts : List Tree) (cov : CoversAll S ts) (r T : ℤ) (hr : pos 0 ≼ r) (hT : pos 0 ≼ T) (c : Cell) (hs : pos 0 ≼ c.s) where
