@@ -1,4 +1,6 @@
 // Upright boxes: a strip's, the one around two, and how near and how far a point is from a stored one. RULES, "Boxes" and "Distance".
+#![tactic(auto)]
+
 ghost use Rattle.std.specs.Prelude.{◌≡◌, ◌≤◌, ◌<◌, nat_abs, length};
 ghost use Rattle.model.specs.Boxes.{span_of, lesser, greater, spanning};
 ghost use Rattle.model.specs.Store.{width};
@@ -12,14 +14,14 @@ ghost use Rattle.boxes.specs.Ranges.{point_at, RangeOf};
 use nodes::{Extent, Limits, X, Y};
 
 // How near and how far the points of an upright box are in one coordinate.
-#[derive(Drop)]
+#[derive(Clone, Copy)]
 pub struct Range {
     pub near: i32,
     pub far: i32,
 }
 
 // The least and the greatest squared distance to the points of an upright box.
-#[derive(Drop)]
+#[derive(Clone, Copy)]
 pub struct Bounds {
     pub lo: i64,
     pub hi: i64,

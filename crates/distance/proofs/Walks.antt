@@ -86,7 +86,7 @@ module _ {p : Cell} {e : ℕ} {l : List ℤ} {t : Tree} {from st : State} {at : 
 
   -- the test of its box
   tested : (c : Bool) → skipped p b st ≡ c → skipped p (box_of w.tree) st ≡ c
-  tested c h = ap (λ (z : Box). skipped p z st) (sym w.b-is) ∙ h
+  tested c h = ap (λ (z : Box). skipped p z st) (sym w.b_is) ∙ h
 
   -- one that is skipped is done with, and its halves too
   pub past_skipped : {r : State} {q : ℕ} → q ≡ at + width * n → skipped p b st ≡ true → r ≡ looked st → Sofar p e l t from r q
@@ -102,7 +102,7 @@ module _ {p : Cell} {e : ℕ} {l : List ℤ} {t : Tree} {from st : State} {at : 
   past_leaf {r} {q} i h k j = record {
     pending = w.others;
     rest = subst (λ (k : ℕ). Rest l k w.others) (omega (arith, i, w.n_is, k)) (pending.past l at w.tree w.others w.rest);
-    ahead = w.ahead ∙ ap (visits p e w.others) (take p e w.tree st (tested false h) (sym w.n_is ∙ k) ∙ ap (λ (z : Box). taken p e z (looked st)) (sym w.b-is) ∙ sym j);
+    ahead = w.ahead ∙ ap (visits p e w.others) (take p e w.tree st (tested false h) (sym w.n_is ∙ k) ∙ ap (λ (z : Box). taken p e z (looked st)) (sym w.b_is) ∙ sym j);
     few = omega (arith, i, w.few, ap (λ (z : State). z.reads) j);
   }
 

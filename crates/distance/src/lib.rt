@@ -1,4 +1,6 @@
 // The lookup of a point: the bounds of its squared distance, from the strip trees in a store. RULES, "Distance" and "Lookup".
+#![tactic(auto)]
+
 ghost use Rattle.std.specs.Prelude.{◌≡◌, List, ◌+◌, ◌*◌, ◌^◌, ◌≤◌, ◌<◌, nat_abs, length};
 ghost use Rattle.model.specs.Trees.{Tree};
 ghost use Rattle.model.specs.Boxes.{lesser};
@@ -14,7 +16,7 @@ use boxes::Bounds;
 use nodes::{COUNT, WIDTH};
 
 // What a lookup has found so far: the bounds, the first edge that attains hi, and how many nodes it has read.
-#[derive(Drop)]
+#[derive(Clone, Copy)]
 pub struct Found {
     pub lo: i64,
     pub hi: i64,
@@ -77,7 +79,8 @@ fn look_through(part: &[i32], edge: usize, x: i32, y: i32, before: Found) -> Fou
             at += WIDTH * n;
         } else {
             at += WIDTH;
-            if n == 1 {
+            let leaf = n == 1;
+            if leaf {
                 found = with_leaf(found, bounds, edge);
             }
         }

@@ -1,4 +1,6 @@
 // Squares of bytes that are held in rows of n, as many rows as there are: a stretch of bytes, of a row, of a square, filled with one byte.
+#![tactic(auto)]
+
 ghost use Rattle.std.specs.Prelude.{◌≡◌, ◌+◌, ◌*◌, ◌≤◌, length, replicate};
 ghost use Rattle.sequences.specs.Stretches.{filled};
 ghost use Rattle.filling.specs.Squares.{over, Drawn};

@@ -1,4 +1,6 @@
 // A node of a strip tree as it stands in a store: its numbers in a row, each at a place that has a name here and nowhere a bare number.
+#![tactic(auto)]
+
 ghost use Rattle.std.specs.Prelude.{◌≡◌, ◌≤◌, ◌<◌, T, pos, nat_abs, length, get_or, drop};
 ghost use Rattle.std.specs.Int.Signed.{non_neg};
 ghost use Rattle.model.specs.Store.{width, numbers};
@@ -30,7 +32,7 @@ pub const LEAST: usize = 7;
 pub const GREATEST: usize = 9;
 
 // A strip in one coordinate: its centre, its axis and half its box.
-#[derive(Drop)]
+#[derive(Clone, Copy)]
 pub struct Extent {
     pub centre: i64,
     pub axis: i64,
@@ -38,7 +40,7 @@ pub struct Extent {
 }
 
 // A box in one coordinate. Its numbers are as the store has them, of 32 bits: of two stored boxes the lesser and the greater are stored ones too.
-#[derive(Drop)]
+#[derive(Clone, Copy)]
 pub struct Limits {
     pub least: i32,
     pub greatest: i32,

@@ -1,4 +1,6 @@
 // Absolute values, and quotients rounded to the nearest whole number.
+#![tactic(auto)]
+
 ghost use Rattle.std.specs.Prelude.{◌≡◌, cond, ◌≤◌, ◌<◌, T, nat_abs};
 ghost use Rattle.std.specs.Int.Signed.{non_neg, shr_z};
 ghost use Rattle.integers.specs.Absolute.{absℤ};
@@ -22,7 +24,7 @@ fn floor(y: i64, d: i64) -> i64
 }
 
 // A quotient: the whole number nearest to it, and whether it is that number.
-#[derive(Drop)]
+#[derive(Clone, Copy)]
 pub struct Quotient {
     pub nearest: i64,
     pub whole: bool,

@@ -1,4 +1,6 @@
 // The power form of an edge, and the strip of a piece of it, in 64-bit numbers. RULES, "Strips".
+#![tactic(auto)]
+
 ghost use Rattle.std.specs.Prelude.{◌≡◌, true, false, ◌≤◌, ◌<◌, T, nat_abs};
 ghost use Rattle.std.specs.Int.Signed.{non_neg};
 ghost use Rattle.model.specs.Jobs.{cubic, line};
@@ -13,7 +15,7 @@ use nodes::Extent;
 use rounding::Quotient;
 
 // The power form in one coordinate. A line's c2 and c3 are 0.
-#[derive(Drop)]
+#[derive(Clone, Copy)]
 pub struct Power {
     pub c0: i64,
     pub c1: i64,
@@ -23,7 +25,7 @@ pub struct Power {
 
 // What an edge's strips are made from: its power form in both coordinates, and whether it is a line. Code over pieces hands it on and looks no
 // further.
-#[derive(Drop)]
+#[derive(Clone, Copy)]
 pub struct Shape {
     pub x: Power,
     pub y: Power,
@@ -31,7 +33,7 @@ pub struct Shape {
 }
 
 // A cubic's four coefficients in one coordinate of a piece, times N³.
-#[derive(Drop)]
+#[derive(Clone, Copy)]
 struct Numerators {
     pub centre: i64,
     pub axis: i64,
@@ -40,7 +42,7 @@ struct Numerators {
 }
 
 // The same over N³, rounded.
-#[derive(Drop)]
+#[derive(Clone, Copy)]
 struct Quotients {
     pub centre: Quotient,
     pub axis: Quotient,
@@ -49,7 +51,7 @@ struct Quotients {
 }
 
 // A piece's strip, and whether it is short.
-#[derive(Drop)]
+#[derive(Clone, Copy)]
 pub struct Piece {
     pub x: Extent,
     pub y: Extent,

@@ -10,13 +10,13 @@ module _ (c : tie.Start) where
   y : Made c.args.y c.args.y 1223959552
   y = arg c.requires.1 c.ranges.y
 
-mul-result : tie.Need-overflow-mul-result
+mul-result : tie.Need-overflow_mul-result
 mul-result c = (times (x c) (x c) tt).fits
 
-mul-result-2 : tie.Need-overflow-mul-result-2
+mul-result-2 : tie.Need-overflow_mul-result-2
 mul-result-2 c = (times (y c) (y c) tt).fits
 
-add-result : tie.Need-overflow-add-result
+add-result : tie.Need-overflow_add-result
 add-result c = (plus (times (x c) (x c) tt) (times (y c) (y c) tt) tt).fits
 
 returns : tie.Need-returns

@@ -23,17 +23,17 @@ module _ (s : tie.Start) where
   centre = held s.args.v.centre s.requires.centre_size tt
 
   axis : Made s.args.v.axis s.args.v.axis 536870912
-  axis = held s.args.v.axis s.pre.axis_size tt
+  axis = held s.args.v.axis s.requires.axis_size tt
 
   half : Made s.args.v.half s.args.v.half 134217728
-  half = held s.args.v.half s.pre.box_size tt
+  half = held s.args.v.half s.requires.box_size tt
 
-module _ (c : tie.After-struct-told3) where
+module _ (c : tie.After-struct_told-3-1) where
   abbrev start : tie.Start
   start = c.before.before.before.before.before
 
   long : Made c.before.before.abs.result (absℤ start.args.v.axis) 536870912
-  long = called (c.before.before.abs.ensures ∙ ap absℤ (back (axis start))) (rw abs_size start.pre.axis_size) tt
+  long = called (c.before.before.abs.ensures ∙ ap absℤ (back (axis start))) (rw abs_size start.requires.axis_size) tt
 
   reach : Made (to_z w64 (of_z w64 c.before.before.abs.result) +ℤ to_z w64 (of_z w64 start.args.v.half)) (absℤ start.args.v.axis +ℤ start.args.v.half) 671088640
   reach = plus long (half start) tt
@@ -41,19 +41,19 @@ module _ (c : tie.After-struct-told3) where
 abs-requires : tie.Need-abs-requires
 abs-requires c κs = sized 4000000000000000000 (axis c.before.before) tt
 
-add-reach : tie.Need-overflow-add-reach
-add-reach c = (reach c).ranges
+add-reach : tie.Need-overflow_add-reach
+add-reach c = (reach c).fits
 
-sub-least : tie.Need-overflow-sub-least
+sub-least : tie.Need-overflow_sub-least
 sub-least c = (minus (centre (start c)) (reach c) tt).fits
 
-cast-least : tie.Need-overflow-cast-least
+cast-least : tie.Need-overflow_cast-least
 cast-least c = narrow (minus (centre (start c)) (reach c) tt)
 
-add-greatest : tie.Need-overflow-add-greatest
+add-greatest : tie.Need-overflow_add-greatest
 add-greatest c = (plus (centre (start c)) (reach c) tt).fits
 
-cast-greatest : tie.Need-overflow-cast-greatest
+cast-greatest : tie.Need-overflow_cast-greatest
 cast-greatest c = narrow (plus (centre (start c)) (reach c) tt)
 
 returns : tie.Need-returns

@@ -10,43 +10,43 @@ use Rattle.filling.proofs.Rows.{row_end, one_row, no_row}
 use Rattle.filling.proofs.fill_square.Statement.{statement}
 use Rattle.filling.proofs.fill_square.Tie as tie
 
-abbrev invariant-loop : tie.invariant-loop
+abbrev invariant-loop : tie.invariant-loop-j
 invariant-loop map₀ n c r w b end j₀ map j =
     (end ≡ r + w) × (r ≤ j) × (j ≤ end) × (length map ≡ length map₀) × Drawn n map map₀ (λ i y x. cond (among c w i && (leb r y && ltb y j)) b x)
 
-abbrev decreases-loop : tie.decreases-loop
+abbrev decreases-loop : tie.decreases-loop-j
 decreases-loop map₀ n c r w b end j₀ map j = end - j
 
-add-end : tie.Need-overflow-add-end invariant-loop decreases-loop
+add-end : tie.Need-overflow_add-end invariant-loop decreases-loop
 add-end c = omega arith
 
-loop-holds : tie.Need-loop-init invariant-loop decreases-loop
+loop-holds : tie.Need-loop-j-init invariant-loop decreases-loop
 loop-holds c =
     let a = c.before.args in
     (refl, omega arith, omega arith, refl, record { cells = λ i y _. no_row (among a.c a.w i) a.r y a.b (get_or a.map.now (y * a.n + i) 0) })
 
-fill-row-requires : tie.Need-fill-row-requires invariant-loop decreases-loop
+fill-row-requires : tie.Need-fill_row-requires invariant-loop decreases-loop
 fill-row-requires c κs =
     let s = c.before.before.before.before in
-    let l = c.before.before.loop in
+    let l = c.before.before.loop-j in
     (omega (arith, s.requires.0), omega (arith, l.invariant.3, s.requires.2, row_end l.j (s.args.r + s.args.w) s.args.n (omega arith)))
 
-add-j : tie.Need-overflow-add-j invariant-loop decreases-loop
+add-j : tie.Need-overflow_add-j invariant-loop decreases-loop
 add-j c = omega arith
 
-loop-less : tie.Need-loop-smaller invariant-loop decreases-loop
+loop-less : tie.Need-loop-j-smaller invariant-loop decreases-loop
 loop-less c = omega arith
 
-loop-again : tie.Need-loop-preserved invariant-loop decreases-loop
+loop-again : tie.Need-loop-j-preserved invariant-loop decreases-loop
 loop-again c =
-    let f = c.before.before.fill-row in
-    let l = c.before.before.before.before.before.loop in
+    let f = c.before.before.fill_row in
+    let l = c.before.before.before.before.before.loop-j in
     let s = c.before.before.before.before.before.before.before in
     let a = s.args in (
       refl,
       omega arith,
       omega arith,
-      f.auto.0 ∙ l.invariant.3,
+      f.auto.map ∙ l.invariant.3,
       record {
         cells = λ i y i<.
             rw f.ensures
@@ -54,12 +54,12 @@ loop-again c =
       },
     )
 
-same_length : tie.Need-same-length invariant-loop decreases-loop
-same_length c = c.before.loop.invariant.3
+same_length : tie.Need-shape_of-map invariant-loop decreases-loop
+same_length c = c.before.loop-j.invariant.3
 
 returns : tie.Need-returns invariant-loop decreases-loop
 returns c =
-    let l = c.before.loop in
+    let l = c.before.loop-j in
     let a = c.before.before.before.args in
     let e : l.j ≡ a.r + a.w = omega arith in
     record { cells = λ i y i<. rw e at (l.invariant.4.cells i y i<) }

@@ -42,61 +42,61 @@ first_of t s = tree s.args.grain (edge_at s.args.marks.now s.args.places.now s.a
 abbrev others_of : (t : ℕ) → build-from-lts.Start (callees t) (build_from_at t) build-from.Post → List Tree
 others_of t s = trees_from s.args.grain s.args.marks.now s.args.places.now s.args.count (s.args.e + 1)
 
-split_at : (t : ℕ) (c : build-from-lts.Else1 (callees t) (build_from_at t) build-from.Post) → let s = c.before in Split s.args.grain s.args.marks.now s.args.places.now s.args.count s.args.e (length s.args.s.now)
-split_at t c = let s = c.before in split s.args.grain s.args.marks.now s.args.places.now s.args.count s.args.e (length s.args.s.now) s.requires.1 c.if1.false
+split_at : (t : ℕ) (c : build-from-lts.Else-e-count (callees t) (build_from_at t) build-from.Post) → let s = c.before in Split s.args.grain s.args.marks.now s.args.places.now s.args.count s.args.e (length s.args.s.now)
+split_at t c = let s = c.before in split s.args.grain s.args.marks.now s.args.places.now s.args.count s.args.e (length s.args.s.now) s.requires.1 c.if-e-count.false
 
-built_is : (t : ℕ) (c : build-from-lts.After-build-edge (callees t) (build_from_at t) build-from.Post) → let s = c.before.before.before in
-    (c.build-edge.result ≡ size (first_of t s)) × (c.build-edge.new.0 ≡ flatten (first_of t s) ++ drop (width * size (first_of t s)) s.args.s.now)
-built_is t c = let s = c.before.before.before in rw (to_z-of_z s.ranges.grain) at c.build-edge.ensures
+built_is : (t : ℕ) (c : build-from-lts.After-build_edge-k (callees t) (build_from_at t) build-from.Post) → let s = c.before.before.before in
+    (c.build_edge-k.result ≡ size (first_of t s)) × (c.build_edge-k.new.s ≡ flatten (first_of t s) ++ drop (width * size (first_of t s)) s.args.s.now)
+built_is t c = let s = c.before.before.before in rw (to_z-of_z s.ranges.grain) at c.build_edge-k.ensures
 
-long_at : (t : ℕ) (c : build-from-lts.After-build-edge (callees t) (build_from_at t) build-from.Post) → length c.build-edge.new.0 ≡ length c.before.before.before.args.s.now
-long_at t c = let s = c.before.before.before in length_built s.args.s.now c.build-edge.new.0 (first_of t s) (built_is t c).1 (omega (arith, (split_at t c.before.before).room))
+long_at : (t : ℕ) (c : build-from-lts.After-build_edge-k (callees t) (build_from_at t) build-from.Post) → length c.build_edge-k.new.s ≡ length c.before.before.before.args.s.now
+long_at t c = let s = c.before.before.before in length_built s.args.s.now c.build_edge-k.new.s (first_of t s) (built_is t c).1 (omega (arith, (split_at t c.before.before).room))
 
-build_from_returns : (t : ℕ) → build-from-lts.Need-returns (callees t) (build_from_at t) build-from.Post
-build_from_returns t c = let s = c.before in rw (end_is s.args.grain s.args.marks.now s.args.places.now s.args.count s.args.e c.if1.true)
+build_from_returns : (t : ℕ) → build-from-lts.Need-returns-then-e-count (callees t) (build_from_at t) build-from.Post
+build_from_returns t c = let s = c.before in rw (end_is s.args.grain s.args.marks.now s.args.places.now s.args.count s.args.e c.if-e-count.true)
 
-build_from_build_edge_requires : (t : ℕ) → build-from-lts.Need-build-edge-requires (callees t) (build_from_at t) build-from.Post
+build_from_build_edge_requires : (t : ℕ) → build-from-lts.Need-build_edge-k-requires (callees t) (build_from_at t) build-from.Post
 build_from_build_edge_requires t c κs = let q = c.before in rw (to_z-of_z q.before.ranges.grain) (split_at t q).first
 
-build_from_mul_at : (t : ℕ) → build-from-lts.Need-overflow-mul-at (callees t) (build_from_at t) build-from.Post
+build_from_mul_at : (t : ℕ) → build-from-lts.Need-overflow_mul-at (callees t) (build_from_at t) build-from.Post
 build_from_mul_at t c = let g = c.before in omega (arith, (built_is t g).0, (split_at t g.before.before).first_few)
 
-build_from_mul_build_from : (t : ℕ) → build-from-lts.Need-overflow-mul-build-from (callees t) (build_from_at t) build-from.Post
+build_from_mul_build_from : (t : ℕ) → build-from-lts.Need-offset_bounds-s-at (callees t) (build_from_at t) build-from.Post
 build_from_mul_build_from t c = let g = c.before in omega (arith, (built_is t g).0, (split_at t g.before.before).first_few)
 
-build_from_sub_build_from : (t : ℕ) → build-from-lts.Need-overflow-sub-build-from (callees t) (build_from_at t) build-from.Post
+build_from_sub_build_from : (t : ℕ) → build-from-lts.Need-slice_bounds-build_from-count (callees t) (build_from_at t) build-from.Post
 build_from_sub_build_from t c = let g = c.before in omega (arith, (built_is t g).0, long_at t g, (split_at t g.before.before).room)
 
-build_from_part_build_from_start : (t : ℕ) → build-from-lts.Need-slice-bounds-build-from-start (callees t) (build_from_at t) build-from.Post
+build_from_part_build_from_start : (t : ℕ) → build-from-lts.Need-slice_bounds-build_from-start (callees t) (build_from_at t) build-from.Post
 build_from_part_build_from_start t c = let g = c.before in omega (arith, (built_is t g).0, long_at t g, (split_at t g.before.before).room)
 
-build_from_part_build_from_end : (t : ℕ) → build-from-lts.Need-slice-bounds-build-from-end (callees t) (build_from_at t) build-from.Post
+build_from_part_build_from_end : (t : ℕ) → build-from-lts.Need-slice_bounds-build_from-end (callees t) (build_from_at t) build-from.Post
 build_from_part_build_from_end t c = omega arith
 
-build_from_add_build_from : (t : ℕ) → build-from-lts.Need-overflow-add-build-from (callees t) (build_from_at t) build-from.Post
+build_from_add_build_from : (t : ℕ) → build-from-lts.Need-overflow_add-e (callees t) (build_from_at t) build-from.Post
 build_from_add_build_from t c = let p = c.before.before.before.before.before.requires.1 in omega (arith, p.from, p.few)
 
-build_from_build_from_requires : (t : ℕ) → build-from-lts.Need-build-from-requires (callees t) (build_from_at t) build-from.Post
+build_from_build_from_requires : (t : ℕ) → build-from-lts.Need-build_from-requires (callees t) (build_from_at t) build-from.Post
 build_from_build_from_requires t c κs =
     let g = c.before.before in
     let q = g.before.before in
     let s = q.before in
     rw (to_z-of_z s.ranges.grain) (
-      omega (arith, s.requires.0, s.requires.1.from, q.if1.false),
-      (split_at t q).others _ (rw (tail_mid (width * g.build-edge.result) g.build-edge.new.0) (simp length-drop (omega (arith, (built_is t g).0, long_at t g)))),
+      omega (arith, s.requires.0, s.requires.1.from, q.if-e-count.false),
+      (split_at t q).others _ (rw (tail_mid (width * g.build_edge-k.result) g.build_edge-k.new.s) (simp length-drop (omega (arith, (built_is t g).0, long_at t g)))),
     )
 
-build_from_same_length : (t : ℕ) → build-from-lts.Need-same-length (callees t) (build_from_at t) build-from.Post
+build_from_same_length : (t : ℕ) → build-from-lts.Need-shape_of-s (callees t) (build_from_at t) build-from.Post
 build_from_same_length t c = search rules
 
-build_from_returns_2 : (t : ℕ) → build-from-lts.Need-returns-2 (callees t) (build_from_at t) build-from.Post
+build_from_returns_2 : (t : ℕ) → build-from-lts.Need-returns (callees t) (build_from_at t) build-from.Post
 build_from_returns_2 t c =
     let g = c.before.before.before.before in
     let q = g.before.before in
     let s = q.before in
     let d = split_at t q in
-    let e = rw (to_z-of_z s.ranges.grain) at c.before.build-from.ensures in
-    rw d.is (built s.args.s.now g.build-edge.new.0 c.before.build-from.new.0 (first_of t s) (others_of t s) g.build-edge.result (built_is t g).0 d.room (built_is t g).1 e)
+    let e = rw (to_z-of_z s.ranges.grain) at c.before.build_from.ensures in
+    rw d.is (built s.args.s.now g.build_edge-k.new.s c.before.build_from.new.s (first_of t s) (others_of t s) g.build_edge-k.result (built_is t g).0 d.room (built_is t g).1 e)
 
 pub +build_from_spec : {M : Type 1} → statement M
 +build_from_spec = close μ_build_from λ t. build-from-lts.spec (callees t)

@@ -42,56 +42,56 @@ first_of t s = tree s.args.grain (edge_at s.args.marks.now s.args.places.now s.a
 abbrev others_of : (t : ℕ) → count-from-lts.Start (callees t) (count_from_at t) count-from.Post → List Tree
 others_of t s = trees_from s.args.grain s.args.marks.now s.args.places.now s.args.count (s.args.e + 1)
 
-nodes_is : (t : ℕ) (c : count-from-lts.After-count-edge (callees t) (count_from_at t) count-from.Post) → c.count-edge.result ≡ count (first_of t c.before.before)
-nodes_is t c = let s = c.before.before in rw (to_z-of_z s.ranges.grain) at c.count-edge.ensures
+nodes_is : (t : ℕ) (c : count-from-lts.After-count_edge-k (callees t) (count_from_at t) count-from.Post) → c.count_edge-k.result ≡ count (first_of t c.before.before)
+nodes_is t c = let s = c.before.before in rw (to_z-of_z s.ranges.grain) at c.count_edge-k.ensures
 
-kept_at : (t : ℕ) (c : count-from-lts.Else2 (callees t) (count_from_at t) count-from.Post) → let s = c.before.before.before in (is_long (first_of t s) ≡ false) × (c.before.count-edge.result ≡ size (first_of t s))
+kept_at : (t : ℕ) (c : count-from-lts.Else-k-eq0 (callees t) (count_from_at t) count-from.Post) → let s = c.before.before.before in (is_long (first_of t s) ≡ false) × (c.before.count_edge-k.result ≡ size (first_of t s))
 kept_at t c =
     let s = c.before.before.before in
-    let k = kept (first_of t s) (λ e. c.if2.false (nodes_is t c.before ∙ e)) in
+    let k = kept (first_of t s) (λ e. c.if-k-eq0.false (nodes_is t c.before ∙ e)) in
     (k.0, nodes_is t c.before ∙ k.1)
 
-count_from_returns : (t : ℕ) → count-from-lts.Need-returns (callees t) (count_from_at t) count-from.Post
-count_from_returns t c = let s = c.before in rw (end_is s.args.grain s.args.marks.now s.args.places.now s.args.count s.args.e c.if1.true) (omega arith)
+count_from_returns : (t : ℕ) → count-from-lts.Need-returns-then-e-count (callees t) (count_from_at t) count-from.Post
+count_from_returns t c = let s = c.before in rw (end_is s.args.grain s.args.marks.now s.args.places.now s.args.count s.args.e c.if-e-count.true) (omega arith)
 
-count_from_count_edge_requires : (t : ℕ) → count-from-lts.Need-count-edge-requires (callees t) (count_from_at t) count-from.Post
+count_from_count_edge_requires : (t : ℕ) → count-from-lts.Need-count_edge-k-requires (callees t) (count_from_at t) count-from.Post
 count_from_count_edge_requires t c κs =
     let s = c.before in
     let p = s.requires.1 in
-    rw (to_z-of_z s.ranges.grain) (p.0, omega (arith, p.1, p.2, c.if1.false), p.3)
+    rw (to_z-of_z s.ranges.grain) (p.0, omega (arith, p.1, p.2, c.if-e-count.false), p.3)
 
-count_from_returns_2 : (t : ℕ) → count-from-lts.Need-returns-2 (callees t) (count_from_at t) count-from.Post
+count_from_returns_2 : (t : ℕ) → count-from-lts.Need-returns-then-k-eq0 (callees t) (count_from_at t) count-from.Post
 count_from_returns_2 t c =
     let s = c.before.before.before in
-    rw (more_is s.args.grain s.args.marks.now s.args.places.now s.args.count s.args.e s.requires.1.1 c.before.before.if1.false)
-    (count_stop (first_of t s) (others_of t s) s.args.sum (sym (nodes_is t c.before) ∙ c.if2.true))
+    rw (more_is s.args.grain s.args.marks.now s.args.places.now s.args.count s.args.e s.requires.1.1 c.before.before.if-e-count.false)
+    (count_stop (first_of t s) (others_of t s) s.args.sum (sym (nodes_is t c.before) ∙ c.if-k-eq0.true))
 
-count_from_add_count_from : (t : ℕ) → count-from-lts.Need-overflow-add-count-from (callees t) (count_from_at t) count-from.Post
+count_from_add_count_from : (t : ℕ) → count-from-lts.Need-overflow_add-e (callees t) (count_from_at t) count-from.Post
 count_from_add_count_from t c = let p = c.before.before.before.requires.1 in omega (arith, p.1, p.2)
 
-count_from_add_count_from_2 : (t : ℕ) → count-from-lts.Need-overflow-add-count-from-2 (callees t) (count_from_at t) count-from.Post
+count_from_add_count_from_2 : (t : ℕ) → count-from-lts.Need-overflow_add-sum (callees t) (count_from_at t) count-from.Post
 count_from_add_count_from_2 t c =
     let s = c.before.before.before in
     let p = s.requires.1 in
     omega (arith, p.1, p.2, p.4, (kept_at t c).1, few_nodes s.args.grain (edge_at s.args.marks.now s.args.places.now s.args.e))
 
-count_from_count_from_requires : (t : ℕ) → count-from-lts.Need-count-from-requires (callees t) (count_from_at t) count-from.Post
+count_from_count_from_requires : (t : ℕ) → count-from-lts.Need-count_from-requires (callees t) (count_from_at t) count-from.Post
 count_from_count_from_requires t c κs =
     let s = c.before.before.before in
     let p = s.requires.1 in
-    let q = c.before.before.if1.false in
+    let q = c.before.before.if-e-count.false in
     rw (to_z-of_z s.ranges.grain) (
       omega (arith, s.requires.0, p.1, q),
       (p.0, omega (arith, p.1, q), p.2, p.3, omega (arith, p.4, (kept_at t c).1, few_nodes s.args.grain (edge_at s.args.marks.now s.args.places.now s.args.e))),
     )
 
-count_from_returns_3 : (t : ℕ) → count-from-lts.Need-returns-3 (callees t) (count_from_at t) count-from.Post
+count_from_returns_3 : (t : ℕ) → count-from-lts.Need-returns (callees t) (count_from_at t) count-from.Post
 count_from_returns_3 t c =
     let s = c.before.before.before.before in
-    let e = rw (to_z-of_z s.ranges.grain) at c.count-from.ensures in
+    let e = rw (to_z-of_z s.ranges.grain) at c.count_from.ensures in
     let k = kept_at t c.before in
-    rw (more_is s.args.grain s.args.marks.now s.args.places.now s.args.count s.args.e s.requires.1.1 c.before.before.before.if1.false)
-    (e ∙ count_go (first_of t s) (others_of t s) s.args.sum c.before.before.count-edge.result k.0 k.1)
+    rw (more_is s.args.grain s.args.marks.now s.args.places.now s.args.count s.args.e s.requires.1.1 c.before.before.before.if-e-count.false)
+    (e ∙ count_go (first_of t s) (others_of t s) s.args.sum c.before.before.count_edge-k.result k.0 k.1)
 
 pub +count_from_spec : {M : Type 1} → statement M
 +count_from_spec = close μ_count_from λ t. count-from-lts.spec (callees t)

@@ -6,7 +6,7 @@ use Rattle.forests.proofs.is_line.Statement.{statement}
 use Rattle.forests.proofs.is_line.Tie as tie
 
 returns : tie.Need-returns
-returns c = ap not (is_zero_is c.args.mark c.fits.mark).0
+returns c = ap not (is_zero_is c.args.mark c.ranges.mark).0
 
 pub is_line_spec : {M : Type 1} → statement M
 is_line_spec = tie.close (tie.spec returns)

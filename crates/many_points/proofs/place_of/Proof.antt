@@ -3,7 +3,7 @@ use native.Mathlib.Omega.{arith}
 use Rattle.many_points.proofs.place_of.Statement.{statement}
 use Rattle.many_points.proofs.place_of.Tie as tie
 
-mul-result : tie.Need-overflow-mul-result
+mul-result : tie.Need-overflow_mul-result
 mul-result c = omega arith
 
 returns : tie.Need-returns

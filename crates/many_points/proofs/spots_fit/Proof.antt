@@ -9,19 +9,19 @@ use Rattle.many_points.proofs.Checking.{none_fit, too_many, one_over, all_fit}
 use Rattle.many_points.proofs.spots_fit.Statement.{statement}
 use Rattle.many_points.proofs.spots_fit.Tie as tie
 
-returns : tie.Need-returns
+returns : tie.Need-returns-then-points-lt1
 returns c = let s = c.before.args.spots.now in let h : spots_in s < 1 = omega arith in none_fit s h
 
-returns-2 : tie.Need-returns-2
+returns-2 : tie.Need-returns-then-points-gt256
 returns-2 c = let s = c.before.before.args.spots.now in let h : 256 < spots_in s = omega arith in too_many s h
 
-mul-if3 : tie.Need-overflow-mul-if3
+mul-if3 : tie.Need-overflow_mul-points
 mul-if3 c = search rules
 
-returns-3 : tie.Need-returns-3
+returns-3 : tie.Need-returns-then-spots-points
 returns-3 c = let s = c.before.before.before.args.spots.now in let h : 2 * spots_in s < length s = omega arith in one_over s h
 
-returns-4 : tie.Need-returns-4
+returns-4 : tie.Need-returns
 returns-4 c =
     let s = c.before.before.before.args.spots.now in
     let h : 1 ≤ spots_in s = omega arith in

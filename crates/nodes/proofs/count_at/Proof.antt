@@ -8,16 +8,16 @@ use mir.Facts.{to_z-of_z, Fits-nat_abs}
 use Rattle.nodes.proofs.count_at.Statement.{statement}
 use Rattle.nodes.proofs.count_at.Tie as tie
 
-mul-result : tie.Need-overflow-mul-result
+mul-result : tie.Need-offset_bounds-s-i
 mul-result c = search rules
 
-shared-slice-copy-out-result : tie.Need-shared-slice-copy-out-result
+shared-slice-copy-out-result : tie.Need-bounds-s-i
 shared-slice-copy-out-result c = search rules
 
-elem : (c : tie.After-result) → SFits w32 (get_or c.before.args.s.now c.before.args.i (pos 0))
-elem c = sfits_of c.result.given
+elem : (c : tie.After-result-1) → SFits w32 (get_or c.before.args.s.now c.before.args.i (pos 0))
+elem c = sfits_of c.result-1.given
 
-cast-result : tie.Need-overflow-cast-result
+cast-result : tie.Need-overflow_cast-result
 cast-result c = rw (to_z-of_z (elem c)) (c.before.requires.1, Fits-nat_abs tt (elem c))
 
 returns : tie.Need-returns

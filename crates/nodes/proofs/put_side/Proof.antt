@@ -6,43 +6,43 @@ use borrow.Author.Rules.{rules}
 use Rattle.nodes.proofs.put_side.Statement.{statement}
 use Rattle.nodes.proofs.put_side.Tie as tie
 
-cast-s : tie.Need-overflow-cast-s
+cast-s : tie.Need-overflow_cast-s
 cast-s c = let s = c.before.before in fits s.args.v.centre s.requires.2.centre_size
 
-add-s : tie.Need-overflow-add-s
+add-s : tie.Need-overflow_add-s
 add-s c = search rules
 
-mul-s : tie.Need-overflow-mul-s
+mul-s : tie.Need-offset_bounds-s-i
 mul-s c = search rules
 
-slice-set-from-s : tie.Need-slice-set-from-s
+slice-set-from-s : tie.Need-bounds-s-i
 slice-set-from-s c = search rules
 
-cast-s-2 : tie.Need-overflow-cast-s-2
+cast-s-2 : tie.Need-overflow_cast-s-2
 cast-s-2 c = let s = c.before.before.before.before in fits s.args.v.axis s.requires.2.axis_size
 
-add-s-2 : tie.Need-overflow-add-s-2
+add-s-2 : tie.Need-overflow_add-s-2
 add-s-2 c = search rules
 
-mul-s-2 : tie.Need-overflow-mul-s-2
+mul-s-2 : tie.Need-offset_bounds-s-i-2
 mul-s-2 c = search rules
 
-slice-set-from-s-2 : tie.Need-slice-set-from-s-2
+slice-set-from-s-2 : tie.Need-bounds-s-i-2
 slice-set-from-s-2 c = simp length-set (omega arith)
 
-cast-s-3 : tie.Need-overflow-cast-s-3
+cast-s-3 : tie.Need-overflow_cast-s-3
 cast-s-3 c = let s = c.before.before.before.before.before.before in fits s.args.v.half (omega (arith, s.requires.2.box_size))
 
-add-t5 : tie.Need-overflow-add-t5
+add-t5 : tie.Need-overflow_add-i
 add-t5 c = search rules
 
-mul-t6 : tie.Need-overflow-mul-t6
+mul-t6 : tie.Need-offset_bounds-s-i-3
 mul-t6 c = search rules
 
-slice-set-from-s-3 : tie.Need-slice-set-from-s-3
+slice-set-from-s-3 : tie.Need-bounds-s-i-3
 slice-set-from-s-3 c = simp length-set (omega arith)
 
-same_length : tie.Need-same-length
+same_length : tie.Need-shape_of-s
 same_length c = search rules
 
 returns : tie.Need-returns

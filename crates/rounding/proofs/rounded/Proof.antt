@@ -29,39 +29,39 @@ module _ (c : tie.Start) where
   d : Made (bits (pos 2) *ℤ bits c.args.n) (pos (2 * k)) 17179869184
   d = times (lit 2 tt) n tt
 
-module _ (c : tie.After-floor) where
+module _ (c : tie.After-floor-q) where
   abbrev s : tie.Start
   s = c.before
 
-  is_nearest : bits c.floor.result ≡ nearest s.args.x (k s)
-  is_nearest = read64 c.floor.result c.floor.type-inv ∙ rw (back (y s), back (d s)) at c.floor.ensures
+  is_nearest : bits c.floor-q.result ≡ nearest s.args.x (k s)
+  is_nearest = read64 c.floor-q.result c.floor-q.type_inv ∙ rw (back (y s), back (d s)) at c.floor-q.ensures
 
-  product : Made (bits c.floor.result *ℤ bits s.args.n) (nearest s.args.x (k s) *ℤ pos (k s)) 3900000008589934592
-  product = called (ap₂ (λ (a b : ℤ). a *ℤ b) is_nearest (back (n s))) (le_trans (back_size s.args.x (k s) s.pre.2) (omega (arith, s.pre.0, s.pre.1))) tt
+  product : Made (bits c.floor-q.result *ℤ bits s.args.n) (nearest s.args.x (k s) *ℤ pos (k s)) 3900000008589934592
+  product = called (ap₂ (λ (a b : ℤ). a *ℤ b) is_nearest (back (n s))) (le_trans (back_size s.args.x (k s) s.requires.2) (omega (arith, s.requires.0, s.requires.1))) tt
 
   -- 2n times it fits as well, so that a test of 2x + n in place of this one is refused for what it says and not for its size
-  doubled : Made (bits c.floor.result *ℤ bits (bits (pos 2) *ℤ bits s.args.n)) (nearest s.args.x (k s) *ℤ pos (2 * k s)) 7800000017179869184
+  doubled : Made (bits c.floor-q.result *ℤ bits (bits (pos 2) *ℤ bits s.args.n)) (nearest s.args.x (k s) *ℤ pos (2 * k s)) 7800000017179869184
   doubled = called (ap₂ (λ (a b : ℤ). a *ℤ b) is_nearest (back (d s))) (rw nat_abs_mul (omega (arith, rw nat_abs_mul at product.within))) tt
 
-mul-y : tie.Need-overflow-mul-y
+mul-y : tie.Need-overflow_mul-y
 mul-y c = (times (lit 2 tt) (x c) tt).fits
 
-add-y : tie.Need-overflow-add-y
+add-y : tie.Need-overflow_add-y
 add-y c = (y c).fits
 
-mul-d : tie.Need-overflow-mul-d
+mul-d : tie.Need-overflow_mul-d
 mul-d c = (d c).fits
 
-floor-requires : tie.Need-floor-requires
+floor-requires : tie.Need-floor-q-requires
 floor-requires c κs = rw (back (y c), back (d c)) (le_trans (y c).within (omega arith), (d c).within, omega (arith, c.requires.2), tt)
 
-mul-t6 : tie.Need-overflow-mul-t6
-mul-t6 c = search ((product c).ranges, (doubled c).ranges)
+mul-t6 : tie.Need-overflow_mul-result
+mul-t6 c = search ((product c).fits, (doubled c).fits)
 
 returns : tie.Need-returns
 returns c =
     let b = c.before in
-    let p = bits c.floor.result *ℤ bits b.args.n in
+    let p = bits c.floor-q.result *ℤ bits b.args.n in
     let one = rest_told b.args.x (k b) (eqb (of_z w64 p) (of_z w64 b.args.x)) b.requires.2 (test_eq (product c) (x b)) (test_ne (product c) (x b)) in
     let other = rest_told b.args.x (k b) (eqb (of_z w64 b.args.x) (of_z w64 p)) b.requires.2 (λ e. sym (test_eq (x b) (product c) e)) (λ e f. test_ne (x b) (product c) e (sym f)) in
     (is_nearest c, omega arith)

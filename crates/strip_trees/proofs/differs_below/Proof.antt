@@ -9,21 +9,21 @@ use borrow.Author.Rules.{rules}
 use Rattle.strip_trees.proofs.differs_below.Statement.{statement}
 use Rattle.strip_trees.proofs.differs_below.Tie as tie
 
-differs-count-requires : tie.Need-differs-count-requires
+differs-count-requires : tie.Need-differs_count-requires
 differs-count-requires c κs = search rules
 
-returns : tie.Need-returns
-returns c = λ h. let s = c.before.before in unless_true c.before.differs-count.result (get_or s.args.s.now count_place (pos 0) ≡ pos s.args.nodes) c.before.differs-count.ensures c.if1.true h.0
+returns : tie.Need-returns-then-differs_count
+returns c = λ h. let s = c.before.before in unless_true c.before.differs_count.result (get_or s.args.s.now count_place (pos 0) ≡ pos s.args.nodes) c.before.differs_count.ensures c.if-differs_count.true h.0
 
-differs-box-requires : tie.Need-differs-box-requires
+differs-box-requires : tie.Need-differs_box-requires
 differs-box-requires c κs = search rules
 
-returns-2 : tie.Need-returns-2
+returns-2 : tie.Need-returns
 returns-2 c =
     let s = c.before.before.before in
     let l = s.args.s.now in
-    let e = unless_false c.before.before.differs-count.result (get_or l count_place (pos 0) ≡ pos s.args.nodes) c.before.before.differs-count.ensures c.before.if1.false in
-    unless_last c.differs-box.result (box_in l ≡ box_by s.args.x s.args.y) ((get_or l count_place (pos 0) ≡ pos s.args.nodes) × (box_in l ≡ box_by s.args.x s.args.y)) (λ g. (e, g)) (λ h. h.1) c.differs-box.ensures
+    let e = unless_false c.before.before.differs_count.result (get_or l count_place (pos 0) ≡ pos s.args.nodes) c.before.before.differs_count.ensures c.before.if-differs_count.false in
+    unless_last c.differs_box.result (box_in l ≡ box_by s.args.x s.args.y) ((get_or l count_place (pos 0) ≡ pos s.args.nodes) × (box_in l ≡ box_by s.args.x s.args.y)) (λ g. (e, g)) (λ h. h.1) c.differs_box.ensures
 
 pub differs_below_spec : {M : Type 1} → statement M
 differs_below_spec =

@@ -7,7 +7,7 @@ use borrow.Author.Rules.{rules}
 use Rattle.strip_trees.proofs.differs_count.Statement.{statement}
 use Rattle.strip_trees.proofs.differs_count.Tie as tie
 
-cast-differs : tie.Need-overflow-cast-differs
+cast-differs : tie.Need-overflow_cast-nodes
 cast-differs c = search rules
 
 differs-requires : tie.Need-differs-requires

@@ -23,42 +23,42 @@ plain b a v h t u = unless_last b (a ≡ to_z w64 (of_z w64 v)) (a ≡ v) (λ e.
 first : (c : tie.After-differs) → let s = c.before.before in Unless c.differs.result (get_or s.args.s.now (s.args.i + centre_place) (pos 0) ≡ s.args.v.centre)
 first c = let s = c.before.before in plain c.differs.result (get_or s.args.s.now (s.args.i + centre_place) (pos 0)) s.args.v.centre s.requires.2.centre_size tt c.differs.ensures
 
-second : (c : tie.After-differs2) → let s = c.before.before.before.before.before in Unless c.differs2.result (get_or s.args.s.now (s.args.i + axis_place) (pos 0) ≡ s.args.v.axis)
-second c = let s = c.before.before.before.before.before in plain c.differs2.result (get_or s.args.s.now (s.args.i + axis_place) (pos 0)) s.args.v.axis s.requires.2.axis_size tt c.differs2.ensures
+second : (c : tie.After-differs-2) → let s = c.before.before.before.before.before in Unless c.differs-2.result (get_or s.args.s.now (s.args.i + axis_place) (pos 0) ≡ s.args.v.axis)
+second c = let s = c.before.before.before.before.before in plain c.differs-2.result (get_or s.args.s.now (s.args.i + axis_place) (pos 0)) s.args.v.axis s.requires.2.axis_size tt c.differs-2.ensures
 
-add-differs : tie.Need-overflow-add-differs
+add-differs : tie.Need-overflow_add-i
 add-differs c = search rules
 
 differs-requires : tie.Need-differs-requires
 differs-requires c κs = search rules
 
-returns : tie.Need-returns
-returns c = λ h. let s = c.before.before.before in unless_true c.before.differs.result (get_or s.args.s.now (s.args.i + centre_place) (pos 0) ≡ s.args.v.centre) (first c.before) c.if1.true (ap (λ (z : Side). z.centre) h)
+returns : tie.Need-returns-then-differs
+returns c = λ h. let s = c.before.before.before in unless_true c.before.differs.result (get_or s.args.s.now (s.args.i + centre_place) (pos 0) ≡ s.args.v.centre) (first c.before) c.if-differs.true (ap (λ (z : Side). z.centre) h)
 
-add-differs-2 : tie.Need-overflow-add-differs-2
+add-differs-2 : tie.Need-overflow_add-i-2
 add-differs-2 c = search rules
 
 differs-requires-2 : tie.Need-differs-requires-2
 differs-requires-2 c κs = search rules
 
-returns-2 : tie.Need-returns-2
-returns-2 c = λ h. let s = c.before.before.before.before.before.before in unless_true c.before.differs2.result (get_or s.args.s.now (s.args.i + axis_place) (pos 0) ≡ s.args.v.axis) (second c.before) c.if2.true (ap (λ (z : Side). z.axis) h)
+returns-2 : tie.Need-returns-then-differs-2
+returns-2 c = λ h. let s = c.before.before.before.before.before.before in unless_true c.before.differs-2.result (get_or s.args.s.now (s.args.i + axis_place) (pos 0) ≡ s.args.v.axis) (second c.before) c.if-differs-2.true (ap (λ (z : Side). z.axis) h)
 
-add-differs-3 : tie.Need-overflow-add-differs-3
+add-differs-3 : tie.Need-overflow_add-i-3
 add-differs-3 c = search rules
 
 differs-requires-3 : tie.Need-differs-requires-3
 differs-requires-3 c κs = search rules
 
-returns-3 : tie.Need-returns-3
+returns-3 : tie.Need-returns
 returns-3 c =
     let s = c.before.before.before.before.before.before.before.before in
     let l = s.args.s.now in
     let v = s.args.v in
-    let e = unless_false c.before.before.before.before.before.before.differs.result (get_or l (s.args.i + centre_place) (pos 0) ≡ v.centre) (first c.before.before.before.before.before.before) c.before.before.before.before.before.if1.false in
-    let f = unless_false c.before.before.before.differs2.result (get_or l (s.args.i + axis_place) (pos 0) ≡ v.axis) (second c.before.before.before) c.before.before.if2.false in
-    unless_last c.differs3.result (get_or l (s.args.i + box_place) (pos 0) ≡ v.half) (side_in l s.args.i ≡ side v) (λ g. side_eq e f g) (λ h. ap (λ (z : Side). z.box) h)
-    (plain c.differs3.result (get_or l (s.args.i + box_place) (pos 0)) v.half s.requires.2.box_size tt c.differs3.ensures)
+    let e = unless_false c.before.before.before.before.before.before.differs.result (get_or l (s.args.i + centre_place) (pos 0) ≡ v.centre) (first c.before.before.before.before.before.before) c.before.before.before.before.before.if-differs.false in
+    let f = unless_false c.before.before.before.differs-2.result (get_or l (s.args.i + axis_place) (pos 0) ≡ v.axis) (second c.before.before.before) c.before.before.if-differs-2.false in
+    unless_last c.differs-3.result (get_or l (s.args.i + box_place) (pos 0) ≡ v.half) (side_in l s.args.i ≡ side v) (λ g. side_eq e f g) (λ h. ap (λ (z : Side). z.box) h)
+    (plain c.differs-3.result (get_or l (s.args.i + box_place) (pos 0)) v.half s.requires.2.box_size tt c.differs-3.ensures)
 
 pub differs_side_spec : {M : Type 1} → statement M
 differs_side_spec =

@@ -46,41 +46,41 @@ module _ (c : tie.After-differs) where
   list = start.args.s.now
 
   first : Unless c.differs.result (get_or list (start.args.i + least_place) (pos 0) ≡ start.args.v.least)
-  first = plain start.args.v.least c.before.before.before.struct_told.given.0.1 c.differs.result list (start.args.i + least_place) _ c.differs.ensures (omega arith)
+  first = plain start.args.v.least c.before.before.before.struct_told-1.given.0.1 c.differs.result list (start.args.i + least_place) _ c.differs.ensures (omega arith)
 
-second : (c : tie.After-differs2) → let d = c.before.before in Unless c.differs2.result (get_or (list d) ((start d).args.i + greatest_place) (pos 0) ≡ (start d).args.v.greatest)
-second c = let d = c.before.before in plain (start d).args.v.greatest d.before.struct-told2.given.1.0.1 c.differs2.result (list d) ((start d).args.i + greatest_place) _ c.differs2.ensures (omega arith)
+second : (c : tie.After-differs-2) → let d = c.before.before in Unless c.differs-2.result (get_or (list d) ((start d).args.i + greatest_place) (pos 0) ≡ (start d).args.v.greatest)
+second c = let d = c.before.before in plain (start d).args.v.greatest d.before.struct_told-2-1.given.1.0.1 c.differs-2.result (list d) ((start d).args.i + greatest_place) _ c.differs-2.ensures (omega arith)
 
-cast-least : tie.Need-overflow-cast-least
-cast-least c = wide_fits c.before.before.args.v.least c.struct_told.given.0.1
+cast-least : tie.Need-overflow_cast-least
+cast-least c = wide_fits c.before.before.args.v.least c.struct_told-1.given.0.1
 
-cast-greatest : tie.Need-overflow-cast-greatest
-cast-greatest c = wide_fits c.before.before.before.before.args.v.greatest c.struct-told2.given.1.0.1
+cast-greatest : tie.Need-overflow_cast-greatest
+cast-greatest c = wide_fits c.before.before.before.before.args.v.greatest c.struct_told-2-1.given.1.0.1
 
-add-differs : tie.Need-overflow-add-differs
+add-differs : tie.Need-overflow_add-i
 add-differs c = search rules
 
 differs-requires : tie.Need-differs-requires
 differs-requires c κs = search rules
 
-returns : tie.Need-returns
+returns : tie.Need-returns-then-differs
 returns c = λ h.
     let d = c.before in
     let s = start d in
-    unless_true d.differs.result (get_or (list d) (s.args.i + least_place) (pos 0) ≡ s.args.v.least) (first d) c.if1.true (ap (λ (z : Span). z.least) h)
+    unless_true d.differs.result (get_or (list d) (s.args.i + least_place) (pos 0) ≡ s.args.v.least) (first d) c.if-differs.true (ap (λ (z : Span). z.least) h)
 
-add-differs-2 : tie.Need-overflow-add-differs-2
+add-differs-2 : tie.Need-overflow_add-i-2
 add-differs-2 c = search rules
 
 differs-requires-2 : tie.Need-differs-requires-2
 differs-requires-2 c κs = search rules
 
-returns-2 : tie.Need-returns-2
+returns-2 : tie.Need-returns
 returns-2 c =
     let d = c.before.before in
     let s = start d in
-    let e = unless_false d.differs.result (get_or (list d) (s.args.i + least_place) (pos 0) ≡ s.args.v.least) (first d) c.before.if1.false in
-    unless_last c.differs2.result (get_or (list d) (s.args.i + greatest_place) (pos 0) ≡ s.args.v.greatest) (span_in (list d) s.args.i ≡ span s.args.v) (λ g. span_eq e g) (λ h. ap (λ (z : Span). z.greatest) h) (second c)
+    let e = unless_false d.differs.result (get_or (list d) (s.args.i + least_place) (pos 0) ≡ s.args.v.least) (first d) c.before.if-differs.false in
+    unless_last c.differs-2.result (get_or (list d) (s.args.i + greatest_place) (pos 0) ≡ s.args.v.greatest) (span_in (list d) s.args.i ≡ span s.args.v) (λ g. span_eq e g) (λ h. ap (λ (z : Span). z.greatest) h) (second c)
 
 pub differs_span_spec : {M : Type 1} → statement M
 differs_span_spec =

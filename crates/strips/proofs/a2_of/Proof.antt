@@ -8,16 +8,16 @@ use Rattle.strips.proofs.a2_of.Tie as tie
 numbers : (s : tie.Start) → Given (form s.args.c) s.args.n s.args.m
 numbers s = given (form s.args.c) s.args.n s.args.m s.requires.0 s.requires.1 s.requires.2 s.ranges.n s.ranges.m
 
-mul-result : tie.Need-overflow-mul-result
+mul-result : tie.Need-overflow_mul-result
 mul-result c = let g = numbers c.before.before in (times g.c2 g.n tt).fits
 
-mul-result-2 : tie.Need-overflow-mul-result-2
+mul-result-2 : tie.Need-overflow_mul-result-2
 mul-result-2 c = let g = numbers c.before.before in (times (lit 3 tt) g.c3 tt).fits
 
-mul-result-3 : tie.Need-overflow-mul-result-3
+mul-result-3 : tie.Need-overflow_mul-result-3
 mul-result-3 c = let g = numbers c.before.before in (times (times (lit 3 tt) g.c3 tt) g.m tt).fits
 
-add-result : tie.Need-overflow-add-result
+add-result : tie.Need-overflow_add-result
 add-result c = let g = numbers c.before.before in (plus (times g.c2 g.n tt) (times (times (lit 3 tt) g.c3 tt) g.m tt) tt).fits
 
 returns : tie.Need-returns

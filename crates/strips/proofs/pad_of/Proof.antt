@@ -9,22 +9,22 @@ slack-requires c κs = search rules
 slack-requires-2 : tie.Need-slack-requires-2
 slack-requires-2 c κs = search rules
 
-add-count : tie.Need-overflow-add-count
+add-count : tie.Need-overflow_add-count
 add-count c = search rules
 
 slack-requires-3 : tie.Need-slack-requires-3
 slack-requires-3 c κs = search rules
 
-add-count-2 : tie.Need-overflow-add-count-2
+add-count-2 : tie.Need-overflow_add-count-2
 add-count-2 c = search rules
 
 slack-requires-4 : tie.Need-slack-requires-4
 slack-requires-4 c κs = search rules
 
-add-count-3 : tie.Need-overflow-add-count-3
+add-count-3 : tie.Need-overflow_add-count-3
 add-count-3 c = search rules
 
-add-result : tie.Need-overflow-add-result
+add-result : tie.Need-overflow_add-result
 add-result c = search rules
 
 returns : tie.Need-returns

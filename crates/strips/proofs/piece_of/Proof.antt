@@ -42,16 +42,16 @@ doubled d k p =
 
 module _ (s : tie.Start) where
   piece : Doubled s.args.d s.args.k
-  piece = doubled s.args.d s.args.k s.pre.1
+  piece = doubled s.args.d s.args.k s.requires.1
 
-shl-n : tie.Need-shl-n
-shl-n c = omega (arith, c.pre.1.depth)
+shl-n : tie.Need-overflow_shl-n
+shl-n c = omega (arith, c.requires.1.depth)
 
-mul-m : tie.Need-mul-m
-mul-m c = let p = piece c in omega (arith, p.most, p.middle-in)
+mul-m : tie.Need-overflow_mul-m
+mul-m c = let p = piece c in omega (arith, p.most, p.middle_in)
 
-add-m : tie.Need-add-m
-add-m c = let p = piece c in omega (arith, p.most, p.middle-in)
+add-m : tie.Need-overflow_add-m
+add-m c = let p = piece c in omega (arith, p.most, p.middle_in)
 
 -- two strips that are a shape's, of either kind
 module _ (shape : Shape) (d k : ℕ) (h : ShapeSized shape) (p : Doubled d k) (x y : Extent) where
@@ -62,8 +62,8 @@ module _ (shape : Shape) (d k : ℕ) (h : ShapeSized shape) (p : Doubled d k) (x
   strip_sized : strip_of x y ≡ strips_of shape d k → Sized (strip_of x y)
   unfolding strips_of
   strip_sized e = subst Sized (sym e) (record {
-    x-sized = by_sized shape.straight shape.x (denominator d) (middle k) h.x_form p.two p.middle-in;
-    y-sized = by_sized shape.straight shape.y (denominator d) (middle k) h.y_form p.two p.middle-in;
+    x_sized = by_sized shape.straight shape.x (denominator d) (middle k) h.x_form p.two p.middle_in;
+    y_sized = by_sized shape.straight shape.y (denominator d) (middle k) h.y_form p.two p.middle_in;
   })
 
   -- what they are handed on as
@@ -71,51 +71,51 @@ module _ (shape : Shape) (d k : ℕ) (h : ShapeSized shape) (p : Doubled d k) (x
   handed T r e h = (h.0 ∙ e, (subst Sized (sym h.0) (strip_sized e), h.1 ∙ ap (short T) e))
 
 -- ---- a line's
-straight-of-requires : tie.Need-straight-of-requires
-straight-of-requires c κs = let s = c.before in let p = piece s in rw p.is (s.pre.0.x_form, p.two, p.most, p.middle-in)
+straight-of-requires : tie.Need-straight_of-x-requires
+straight-of-requires c κs = let s = c.before.before in let p = piece s in rw p.is (s.requires.0.x_form, p.two, p.most, p.middle_in)
 
-straight-of-requires-2 : tie.Need-straight-of-requires-2
-straight-of-requires-2 c κs = let s = c.before.before in let p = piece s in rw p.is (s.pre.0.y_form, p.two, p.most, p.middle-in)
+straight-of-requires-2 : tie.Need-straight_of-y-requires
+straight-of-requires-2 c κs = let s = c.before.before.before.before in let p = piece s in rw p.is (s.requires.0.y_form, p.two, p.most, p.middle_in)
 
-line_is : (c : tie.After-straight-of2) → let s = c.before.before.before in strip_of c.before.straight-of.result c.straight-of2.result ≡ strips_of s.args.shape s.args.d s.args.k
+line_is : (c : tie.After-straight_of-y) → let s = c.before.before.before.before.before in strip_of c.straight_of-x.result c.straight_of-y.result ≡ strips_of s.args.shape s.args.d s.args.k
 unfolding side_by
 line_is c =
-    let t = c.before.before in
+    let t = c.before.before.before.before in
     let s = t.before in
     let p = piece s in
-    strip_is s.args.shape s.args.d s.args.k s.pre.0 p c.before.straight-of.result c.straight-of2.result
-    (rw t.if1.taken (rw p.is at c.before.straight-of.ensures)) (rw t.if1.taken (rw p.is at c.straight-of2.ensures))
+    strip_is s.args.shape s.args.d s.args.k s.requires.0 p c.straight_of-x.result c.straight_of-y.result
+    (rw t.if-shape.true (rw p.is at c.straight_of-x.ensures)) (rw t.if-shape.true (rw p.is at c.straight_of-y.ensures))
 
-with-short-requires : tie.Need-with-short-requires
+with-short-requires : tie.Need-with_short-requires
 with-short-requires c κs =
-    let s = c.before.before.before in
-    (strip_sized s.args.shape s.args.d s.args.k s.pre.0 (piece s) c.before.straight-of.result c.straight-of2.result (line_is c), rw (to_z-of_z s.fits.grain) s.pre.2)
+    let s = c.before.before.before.before.before in
+    (strip_sized s.args.shape s.args.d s.args.k s.requires.0 (piece s) c.straight_of-x.result c.straight_of-y.result (line_is c), rw (to_z-of_z s.ranges.grain) s.requires.2)
 
-returns : tie.Need-returns
+returns : tie.Need-returns-then-shape
 returns c =
     let b = c.before in
-    let s = b.before.before.before in
-    handed s.args.shape s.args.d s.args.k s.pre.0 (piece s) b.before.straight-of.result b.straight-of2.result s.args.grain c.with-short.result (line_is b) (rw (to_z-of_z s.fits.grain) at c.with-short.ensures)
+    let s = b.before.before.before.before.before in
+    handed s.args.shape s.args.d s.args.k s.requires.0 (piece s) b.straight_of-x.result b.straight_of-y.result s.args.grain c.with_short.result (line_is b) (rw (to_z-of_z s.ranges.grain) at c.with_short.ensures)
 
 -- ---- a cubic's
-curved-of-requires : tie.Need-curved-of-requires
+curved-of-requires : tie.Need-curved_of-requires
 curved-of-requires c κs =
-    let s = c.before in
+    let s = c.before.before.before in
     let p = piece s in
-    rw (p.is, to_z-of_z s.fits.grain) (s.pre.0.x_form, s.pre.0.y_form, p.two, p.most, p.middle-in, s.pre.2)
+    rw (p.is, to_z-of_z s.ranges.grain) (s.requires.0.x_form, s.requires.0.y_form, p.two, p.most, p.middle_in, s.requires.2)
 
 -- a strip whose coordinates are a shape's that is no line
 cubic_is : (shape : Shape) (d k : ℕ) → shape.straight ≡ false → curved_both shape.x shape.y (denominator d) (middle k) ≡ strips_of shape d k
 unfolding side_by strips_of
 cubic_is shape d k e = rw e refl
 
-returns-2 : tie.Need-returns-2
+returns-2 : tie.Need-returns
 returns-2 c =
-    let s = c.before.before in
-    let e = rw ((piece s).is, to_z-of_z s.fits.grain) at c.curved-of.ensures in
-    let f = cubic_is s.args.shape s.args.d s.args.k c.before.if1.left in
+    let s = c.before.before.before.before in
+    let e = rw ((piece s).is, to_z-of_z s.ranges.grain) at c.curved_of.ensures in
+    let f = cubic_is s.args.shape s.args.d s.args.k c.if-shape.false in
     let h = e.0 ∙ f in
-    (h, (strip_sized s.args.shape s.args.d s.args.k s.pre.0 (piece s) c.curved-of.result.x c.curved-of.result.y h, e.1 ∙ ap (short s.args.grain) f))
+    (h, (strip_sized s.args.shape s.args.d s.args.k s.requires.0 (piece s) c.curved_of.result.x c.curved_of.result.y h, e.1 ∙ ap (short s.args.grain) f))
 
 pub piece_of_spec : {M : Type 1} → statement M
 piece_of_spec =
