@@ -1,4 +1,6 @@
 // A job as a row of numbers, read and written.
+#![tactic(auto)]
+
 ghost use Rattle.std.specs.Prelude.{◌≡◌, ◌+◌, ◌≤◌, pos, length, get_or};
 ghost use Rattle.std.proofs.Math.Seq.{paste};
 ghost use Rattle.flat_jobs.specs.FlatJobs.{places_at, places_long, marks_at, marks_long, row_long, count_of, stretch, job_from, head_of, numbers_of};

@@ -1,4 +1,6 @@
 // Writes numbers and forms' text. Each writer takes the bytes lent and a position, and gives the position after what it wrote.
+#![tactic(auto)]
+
 ghost use Rattle.std.specs.Prelude.{◌≡◌, [], ◌∷◌, ◌+◌, ◌≤◌, ◌<◌, nat_abs, length, drop};
 ghost use Rattle.model.specs.Numbers.{decimal, text};
 ghost use Rattle.model.specs.Forms.{write_form};

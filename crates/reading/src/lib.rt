@@ -1,4 +1,6 @@
 // Reads a job sheet, line by line. Each reader takes the sheet and a position, and says what stands there and where the next line starts.
+#![tactic(auto)]
+
 ghost use Rattle.std.specs.Prelude.{◌≡◌, false, [], ◌∷◌, ◌≤◌, pos, length, drop, replicate};
 ghost use Rattle.model.specs.Jobs.{zero_job};
 ghost use Rattle.model.specs.Forms.{read_form};
@@ -12,14 +14,14 @@ use model::{FORM, Job, Read};
 use scanning::form_at;
 
 // The number of a line that may be left out, and where the next line starts.
-#[derive(Drop)]
+#[derive(Clone, Copy)]
 pub struct Optional {
     pub next: usize,
     pub value: i32,
 }
 
 // An edge's line: its mark, its numbers with zeros past them, and where the next line starts.
-#[derive(Drop)]
+#[derive(Clone, Copy)]
 pub struct EdgeLine {
     pub found: bool,
     pub next: usize,
@@ -28,7 +30,7 @@ pub struct EdgeLine {
 }
 
 // The edges of a sheet: how many, the numbers and the marks of the first 64, and where the next line starts.
-#[derive(Drop)]
+#[derive(Clone, Copy)]
 pub struct Edges {
     pub next: usize,
     pub count: usize,
@@ -37,7 +39,7 @@ pub struct Edges {
 }
 
 // The lines before the edges: their numbers, and where the edges start.
-#[derive(Drop)]
+#[derive(Clone, Copy)]
 pub struct Head {
     pub found: bool,
     pub next: usize,
@@ -93,6 +95,7 @@ fn no_marks() -> [i32; 64]
 }
 
 // Puts the numbers of one more edge in place, after `count` edges. 64 edges are kept.
+#[tactic(auto, using(crate::proofs::Kept::all_kept, crate::proofs::Kept::kept_more))]
 fn keep_edge(values: &mut [i32; 512], count: usize, line: [i32; 8])
     requires sizes { (length values.old ≡ 512) × (length line ≡ 8) }
     ensures answer { values.new ≡ keep 8 values.old count line }

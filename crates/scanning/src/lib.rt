@@ -1,4 +1,6 @@
 // Reads numbers and forms' text. Each reader takes the bytes and a position, and says what stands there and where the next one starts.
+#![tactic(auto)]
+
 ghost use Rattle.std.specs.Prelude.{◌≡◌, [], ◌≤◌, ◌<◌, pos, neg_ℤ, length, take, drop};
 ghost use Rattle.model.specs.Numbers.{natural, number};
 ghost use Rattle.model.specs.Forms.{read_form};
@@ -6,14 +8,14 @@ ghost use Rattle.model.specs.Sheets.{fit};
 ghost use Rattle.sheet_text.specs.Forms.{marks};
 ghost use Rattle.scanning.specs.Scanned.{byte_of, digit_of, no_natural, natural_got, no_number, number_got, no_line, line_got};
 
-#[derive(Drop)]
+#[derive(Clone, Copy)]
 pub struct Natural {
     pub found: bool,
     pub value: u32,
     pub next: usize,
 }
 
-#[derive(Drop)]
+#[derive(Clone, Copy)]
 pub struct Number {
     pub found: bool,
     pub value: i32,
@@ -21,7 +23,7 @@ pub struct Number {
 }
 
 // What a form's text holds: its numbers, in order, and zeros past them.
-#[derive(Drop)]
+#[derive(Clone, Copy)]
 pub struct Line {
     pub found: bool,
     pub next: usize,
@@ -67,6 +69,7 @@ fn no_natural() -> Natural
 }
 
 // One digit that is no 0, and at most six more.
+#[tactic(auto, using(crate::proofs::Numbers::first_zero))]
 pub fn natural_at(s: &[u8], at: usize) -> Natural
     ensures answer { natural_got s.now result ≡ natural (drop at s.now) }
     ensures within { result.next ≤ length s.now }

@@ -22,7 +22,7 @@ use Rattle.sheet_text.specs.Forms.{AllSmall, nil_small, cons_small}
 use Rattle.ranges.specs.Refusals.{when_refused, when_passed, first_fails}
 use Rattle.ranges.specs.Legal.{legal}
 use Rattle.sheet_text.specs.Jobs.{head_small, edges_small}
-use Rattle.sheet_text.specs.Code.{head_of, headText, edgesText, codeText, sheet-as-code}
+use Rattle.sheet_text.specs.Code.{head_of, head_text, edges_text, code_text, sheet_as_code}
 use Rattle.sheet_text.specs.Longest.{room, head_most, grain_most}
 use Rattle.formatting.specs.Puts.{Put}
 use Rattle.formatting.specs.Texts.{put_then, small_fits, small_again}
@@ -56,10 +56,10 @@ module _ (j : Job) (ok : judge j ≡ 0) where
   abbrev optional_text : List ℕ
   optional_text = write_lines (grain_form ∷ []) (stated default_grain (to_z w32 (of_z w32 j.grain)))
 
-  module _ (a b c : List ℕ) (i k : ℕ) (hs : List ℤ) (e : hs ≡ head_of j) (p : Put a b 0 i (headText hs)) (q : Put b c i k optional_text) where
+  module _ (a b c : List ℕ) (i k : ℕ) (hs : List ℤ) (e : hs ≡ head_of j) (p : Put a b 0 i (head_text hs)) (q : Put b c i k optional_text) where
     pub lines_by : k ≤ 75
     lines_by =
-        let h : length (headText hs) ≤ 60 = rw e (head_most j ok) in
+        let h : length (head_text hs) ≤ 60 = rw e (head_most j ok) in
         let g : length optional_text ≤ 15 = rw grain_back (grain_most j ok) in
         omega (arith, p.next_is, q.next_is)
 
@@ -79,15 +79,15 @@ module _ (j : Job) (ok : judge j ≡ 0) where
   unfolding write_form end_form
   end_line hs = refl
 
-  pub sheet_put : (a b c d f : List ℕ) (i k m n : ℕ) (hs : List ℤ) → Put a b 0 i (headText hs) → Put b c i k (write_lines (grain_form ∷ []) (stated default_grain (to_z w32 (of_z w32 j.grain)))) → Put c d k m (edgesText j.count j.marks j.places) → Put d f m n (write_form end_form hs) → hs ≡ head_of j → length j.places ≡ 512 → Put a f 0 n (sheet_of j)
-  unfolding codeText
+  pub sheet_put : (a b c d f : List ℕ) (i k m n : ℕ) (hs : List ℤ) → Put a b 0 i (head_text hs) → Put b c i k (write_lines (grain_form ∷ []) (stated default_grain (to_z w32 (of_z w32 j.grain)))) → Put c d k m (edges_text j.count j.marks j.places) → Put d f m n (write_form end_form hs) → hs ≡ head_of j → length j.places ≡ 512 → Put a f 0 n (sheet_of j)
+  unfolding code_text
   sheet_put a b c d f i k m n hs p q r s e x =
       subst (Put a f 0 n)
-      (ap₂ (λ y z. headText y ++ (write_lines (grain_form ∷ []) (stated default_grain z) ++ (edgesText j.count j.marks j.places ++ write_form end_form []))) e grain_back
-      ∙ sym (sheet-as-code j (places_there x)))
-      (put_then a b f 0 i n (headText hs) _ p
+      (ap₂ (λ y z. head_text y ++ (write_lines (grain_form ∷ []) (stated default_grain z) ++ (edges_text j.count j.marks j.places ++ write_form end_form []))) e grain_back
+      ∙ sym (sheet_as_code j (places_there x)))
+      (put_then a b f 0 i n (head_text hs) _ p
       (put_then b c f i k n (write_lines (grain_form ∷ []) (stated default_grain (to_z w32 (of_z w32 j.grain)))) _ q
-      (put_then c d f k m n (edgesText j.count j.marks j.places) (write_form end_form []) r (subst (Put d f m n) (end_line hs) s))))
+      (put_then c d f k m n (edges_text j.count j.marks j.places) (write_form end_form []) r (subst (Put d f m n) (end_line hs) s))))
 
 -- ---- write
 module _ (j : Job) (out : List ℕ) where

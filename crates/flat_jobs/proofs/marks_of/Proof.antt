@@ -3,13 +3,13 @@ use borrow.Author.Rules.{rules}
 use Rattle.flat_jobs.proofs.marks_of.Statement.{statement}
 use Rattle.flat_jobs.proofs.marks_of.Tie as tie
 
-no-marks-requires : tie.Need-no-marks-requires
+no-marks-requires : tie.Need-no_marks-marks-requires
 no-marks-requires c κs = search rules
 
-slice-aggregate-fill-from : tie.Need-slice-aggregate-fill-from
+slice-aggregate-fill-from : tie.Need-slice_bounds-fill_from-end
 slice-aggregate-fill-from c = search rules
 
-fill-from-requires : tie.Need-fill-from-requires
+fill-from-requires : tie.Need-fill_from-requires
 fill-from-requires c κs = search rules
 
 returns : tie.Need-returns

@@ -3,13 +3,13 @@ use borrow.Author.Rules.{rules}
 use Rattle.flat_jobs.proofs.places_of.Statement.{statement}
 use Rattle.flat_jobs.proofs.places_of.Tie as tie
 
-no-places-requires : tie.Need-no-places-requires
+no-places-requires : tie.Need-no_places-places-requires
 no-places-requires c κs = search rules
 
-slice-aggregate-fill-from : tie.Need-slice-aggregate-fill-from
+slice-aggregate-fill-from : tie.Need-slice_bounds-fill_from-end
 slice-aggregate-fill-from c = search rules
 
-fill-from-requires : tie.Need-fill-from-requires
+fill-from-requires : tie.Need-fill_from-requires
 fill-from-requires c κs = search rules
 
 returns : tie.Need-returns

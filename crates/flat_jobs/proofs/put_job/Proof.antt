@@ -8,34 +8,34 @@ use borrow.Author.Rules.{rules}
 use Rattle.flat_jobs.proofs.put_job.Statement.{statement}
 use Rattle.flat_jobs.proofs.put_job.Tie as tie
 
-head-of-requires : tie.Need-head-of-requires
+head-of-requires : tie.Need-head_of-head-requires
 head-of-requires c κs = search rules
 
-slice-aggregate-put-from : tie.Need-slice-aggregate-put-from
+slice-aggregate-put-from : tie.Need-slice_bounds-put_from-end-2
 slice-aggregate-put-from c = search rules
 
-put-from-requires : tie.Need-put-from-requires
+put-from-requires : tie.Need-put_from-requires
 put-from-requires c κs = search rules
 
-slice-aggregate-put-from-2 : tie.Need-slice-aggregate-put-from-2
+slice-aggregate-put-from-2 : tie.Need-slice_bounds-put_from-end-4
 slice-aggregate-put-from-2 c = search rules
 
-put-from-requires-2 : tie.Need-put-from-requires-2
+put-from-requires-2 : tie.Need-put_from-requires-2
 put-from-requires-2 c κs =
     let s = c.before.before.before.before.before.before.before.before in
     let w : Whole s.args.job = search rules in
     let l : length s.args.numbers.now ≡ row_long = search rules in
-    omega (arith, w, l, c.before.before.put-from.auto.0)
+    omega (arith, w, l, c.before.before.put_from.auto.numbers)
 
-slice-aggregate-put-from-3 : tie.Need-slice-aggregate-put-from-3
+slice-aggregate-put-from-3 : tie.Need-slice_bounds-put_from-end-6
 slice-aggregate-put-from-3 c = search rules
 
-put-from-requires-3 : tie.Need-put-from-requires-3
+put-from-requires-3 : tie.Need-put_from-requires-3
 put-from-requires-3 c κs =
     let s = c.before.before.before.before.before.before.before.before.before.before.before in
     let w : Whole s.args.job = search rules in
     let l : length s.args.numbers.now ≡ row_long = search rules in
-    omega (arith, w, l, c.before.before.put-from2.auto.0, c.before.before.before.before.before.put-from.auto.0)
+    omega (arith, w, l, c.before.before.put_from-2.auto.numbers, c.before.before.before.before.before.put_from.auto.numbers)
 
 returns : tie.Need-returns
 returns c =

@@ -7,49 +7,49 @@ use Rattle.formatting.proofs.Forms as forms
 use Rattle.formatting.proofs.put_form.Statement.{statement}
 use Rattle.formatting.proofs.put_form.Tie as tie
 
-abbrev invariant-loop : tie.invariant-loop
+abbrev invariant-loop : tie.invariant-loop-j
 invariant-loop out₀ at form values from i₀ k₀ j₀ out i k j = forms.Going form values out₀ at from out i k j
 
-abbrev decreases-loop : tie.decreases-loop
+abbrev decreases-loop : tie.decreases-loop-j
 decreases-loop out₀ at form values from i₀ k₀ j₀ out i k j = length form - j
 
-loop-holds : tie.Need-loop-init invariant-loop decreases-loop
+loop-holds : tie.Need-loop-j-init invariant-loop decreases-loop
 loop-holds c = search (rules, forms.starts)
 
-shared-slice-read-f : tie.Need-shared-slice-read-f invariant-loop decreases-loop
+shared-slice-read-f : tie.Need-bounds-form-j invariant-loop decreases-loop
 shared-slice-read-f c = search rules
 
-add-j : tie.Need-overflow-add-j invariant-loop decreases-loop
+add-j : tie.Need-overflow_add-j invariant-loop decreases-loop
 add-j c = omega arith
 
-mul-v : tie.Need-overflow-mul-v invariant-loop decreases-loop
+mul-v : tie.Need-offset_bounds-values-k invariant-loop decreases-loop
 mul-v c = search (rules, forms.offset)
 
-shared-slice-copy-out-v : tie.Need-shared-slice-copy-out-v invariant-loop decreases-loop
+shared-slice-copy-out-v : tie.Need-bounds-values-k invariant-loop decreases-loop
 shared-slice-copy-out-v c = search (rules, forms.has_value)
 
-put-number-requires : tie.Need-put-number-requires invariant-loop decreases-loop
+put-number-requires : tie.Need-put_number-i-requires invariant-loop decreases-loop
 put-number-requires c κs = (search (rules, forms.number_small), search (rules, forms.number_room))
 
-add-k : tie.Need-overflow-add-k invariant-loop decreases-loop
+add-k : tie.Need-overflow_add-k invariant-loop decreases-loop
 add-k c = search (rules, forms.next_value)
 
-loop-less : tie.Need-loop-smaller invariant-loop decreases-loop
+loop-less : tie.Need-loop-j-smaller-then-f-eq35 invariant-loop decreases-loop
 loop-less c = omega arith
 
-loop-again : tie.Need-loop-preserved invariant-loop decreases-loop
+loop-again : tie.Need-loop-j-preserved-then-f-eq35 invariant-loop decreases-loop
 loop-again c = search (rules, forms.number_on)
 
-put-byte-requires : tie.Need-put-byte-requires invariant-loop decreases-loop
+put-byte-requires : tie.Need-put_byte-i-requires invariant-loop decreases-loop
 put-byte-requires c κs = search (rules, forms.byte_space)
 
-loop-less-2 : tie.Need-loop-smaller-2 invariant-loop decreases-loop
+loop-less-2 : tie.Need-loop-j-smaller invariant-loop decreases-loop
 loop-less-2 c = omega arith
 
-loop-again-2 : tie.Need-loop-preserved-2 invariant-loop decreases-loop
+loop-again-2 : tie.Need-loop-j-preserved invariant-loop decreases-loop
 loop-again-2 c = search (rules, forms.byte_on)
 
-same_length : tie.Need-same-length invariant-loop decreases-loop
+same_length : tie.Need-shape_of-out invariant-loop decreases-loop
 same_length c = search (rules, forms.same_long)
 
 returns : tie.Need-returns invariant-loop decreases-loop

@@ -5,7 +5,7 @@ use Rattle.judging.proofs.is_one.Statement.{statement}
 use Rattle.judging.proofs.is_one.Tie as tie
 
 returns : tie.Need-returns
-returns c = let t = is_one_is c.args.z c.fits.z in search rules
+returns c = let t = is_one_is c.args.z c.ranges.z in search rules
 
 pub is_one_spec : {M : Type 1} → statement M
 is_one_spec = tie.close (tie.spec returns)

@@ -5,7 +5,7 @@ use Rattle.judging.proofs.is_zero.Statement.{statement}
 use Rattle.judging.proofs.is_zero.Tie as tie
 
 returns : tie.Need-returns
-returns c = let t = is_zero_is c.args.z c.fits.z in search rules
+returns c = let t = is_zero_is c.args.z c.ranges.z in search rules
 
 pub is_zero_spec : {M : Type 1} → statement M
 is_zero_spec = tie.close (tie.spec returns)

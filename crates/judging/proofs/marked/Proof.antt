@@ -10,37 +10,37 @@ use Rattle.judging.proofs.Verdicts as verdicts
 use Rattle.judging.proofs.marked.Statement.{statement}
 use Rattle.judging.proofs.marked.Tie as tie
 
-abbrev invariant-loop : tie.invariant-loop
+abbrev invariant-loop : tie.invariant-loop-i
 invariant-loop n marks places i₀ i = (law.marked n marks places ≡ run (kind_in places) (n - i) i (drop i marks)) × (i ≤ 64)
 
-abbrev decreases-loop : tie.decreases-loop
+abbrev decreases-loop : tie.decreases-loop-i
 decreases-loop n marks places i₀ i = 64 - i
 
-loop-holds : tie.Need-loop-init invariant-loop decreases-loop
+loop-holds : tie.Need-loop-i-init invariant-loop decreases-loop
 loop-holds c = search (rules, verdicts.marked_first)
 
-mul-m : tie.Need-overflow-mul-m invariant-loop decreases-loop
+mul-m : tie.Need-offset_bounds-marks-i invariant-loop decreases-loop
 mul-m c = omega arith
 
-element-copy-out-m : tie.Need-element-copy-out-m invariant-loop decreases-loop
+element-copy-out-m : tie.Need-bounds-marks-i invariant-loop decreases-loop
 element-copy-out-m c = omega arith
 
 mark-requires : tie.Need-mark-requires invariant-loop decreases-loop
 mark-requires c κs = search rules
 
-returns : tie.Need-returns invariant-loop decreases-loop
+returns : tie.Need-returns-then-not-mark invariant-loop decreases-loop
 returns c = search (rules, verdicts.turn_fails)
 
-add-i : tie.Need-overflow-add-i invariant-loop decreases-loop
+add-i : tie.Need-overflow_add-i invariant-loop decreases-loop
 add-i c = omega arith
 
-loop-less : tie.Need-loop-smaller invariant-loop decreases-loop
+loop-less : tie.Need-loop-i-smaller invariant-loop decreases-loop
 loop-less c = omega arith
 
-loop-again : tie.Need-loop-preserved invariant-loop decreases-loop
+loop-again : tie.Need-loop-i-preserved invariant-loop decreases-loop
 loop-again c = (search (rules, verdicts.turn_holds), omega arith)
 
-returns-2 : tie.Need-returns-2 invariant-loop decreases-loop
+returns-2 : tie.Need-returns invariant-loop decreases-loop
 returns-2 c = search (rules, verdicts.all_hold)
 
 pub marked_spec : {M : Type 1} → statement M

@@ -10,37 +10,37 @@ use Rattle.judging.proofs.Verdicts as verdicts
 use Rattle.judging.proofs.placed.Statement.{statement}
 use Rattle.judging.proofs.placed.Tie as tie
 
-abbrev invariant-loop : tie.invariant-loop
+abbrev invariant-loop : tie.invariant-loop-i
 invariant-loop n places i₀ i = (law.placed n places ≡ run anywhere (n - i) i (drop i places)) × (i ≤ 512)
 
-abbrev decreases-loop : tie.decreases-loop
+abbrev decreases-loop : tie.decreases-loop-i
 decreases-loop n places i₀ i = 512 - i
 
-loop-holds : tie.Need-loop-init invariant-loop decreases-loop
+loop-holds : tie.Need-loop-i-init invariant-loop decreases-loop
 loop-holds c = search (rules, verdicts.placed_first)
 
-mul-v : tie.Need-overflow-mul-v invariant-loop decreases-loop
+mul-v : tie.Need-offset_bounds-places-i invariant-loop decreases-loop
 mul-v c = omega arith
 
-element-copy-out-v : tie.Need-element-copy-out-v invariant-loop decreases-loop
+element-copy-out-v : tie.Need-bounds-places-i invariant-loop decreases-loop
 element-copy-out-v c = omega arith
 
 place-requires : tie.Need-place-requires invariant-loop decreases-loop
 place-requires c κs = tt
 
-returns : tie.Need-returns invariant-loop decreases-loop
+returns : tie.Need-returns-then-not-place invariant-loop decreases-loop
 returns c = search (rules, verdicts.turn_fails)
 
-add-i : tie.Need-overflow-add-i invariant-loop decreases-loop
+add-i : tie.Need-overflow_add-i invariant-loop decreases-loop
 add-i c = omega arith
 
-loop-less : tie.Need-loop-smaller invariant-loop decreases-loop
+loop-less : tie.Need-loop-i-smaller invariant-loop decreases-loop
 loop-less c = omega arith
 
-loop-again : tie.Need-loop-preserved invariant-loop decreases-loop
+loop-again : tie.Need-loop-i-preserved invariant-loop decreases-loop
 loop-again c = (search (rules, verdicts.turn_holds), omega arith)
 
-returns-2 : tie.Need-returns-2 invariant-loop decreases-loop
+returns-2 : tie.Need-returns invariant-loop decreases-loop
 returns-2 c = search (rules, verdicts.all_hold)
 
 pub placed_spec : {M : Type 1} → statement M

@@ -4,13 +4,13 @@ use Rattle.judging.proofs.Verdicts as verdicts
 use Rattle.judging.proofs.zero_at.Statement.{statement}
 use Rattle.judging.proofs.zero_at.Tie as tie
 
-mul-is-zero : tie.Need-overflow-mul-is-zero
+mul-is-zero : tie.Need-offset_bounds-places-i
 mul-is-zero c = search rules
 
-element-copy-out-is-zero : tie.Need-element-copy-out-is-zero
+element-copy-out-is-zero : tie.Need-bounds-places-i
 element-copy-out-is-zero c = search rules
 
-is-zero-requires : tie.Need-is-zero-requires
+is-zero-requires : tie.Need-is_zero-requires
 is-zero-requires c κs = search rules
 
 returns : tie.Need-returns

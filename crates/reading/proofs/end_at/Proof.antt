@@ -7,20 +7,17 @@ use Rattle.reading.proofs.EdgeLines as edges
 use Rattle.reading.proofs.end_at.Statement.{statement}
 use Rattle.reading.proofs.end_at.Tie as tie
 
-slice-aggregate-form-at : tie.Need-slice-aggregate-form-at
-slice-aggregate-form-at c = search rules
-
-form-at-requires : tie.Need-form-at-requires
+form-at-requires : tie.Need-form_at-end-requires
 unfolding marks
 form-at-requires c κs = (search rules, lit≤ tt)
 
-returns : tie.Need-returns
+returns : tie.Need-returns-then-end
 unfolding end_form
 returns c = search (rules, edges.end_found)
 
-returns-2 : tie.Need-returns-2
+returns-2 : tie.Need-returns
 unfolding end_form
 returns-2 c = search (rules, edges.end_none)
 
 pub end_at_spec : {M : Type 1} → statement M
-end_at_spec = tie.close (tie.spec slice-aggregate-form-at form-at-requires returns returns-2)
+end_at_spec = tie.close (tie.spec form-at-requires returns returns-2)

@@ -4,16 +4,16 @@ use Rattle.reading.proofs.Kept as kept
 use Rattle.reading.proofs.keep_mark.Statement.{statement}
 use Rattle.reading.proofs.keep_mark.Tie as tie
 
-mul-mark : tie.Need-overflow-mul-mark
+mul-mark : tie.Need-offset_bounds-marks-count
 mul-mark c = search rules
 
-element-set-from-mark : tie.Need-element-set-from-mark
+element-set-from-mark : tie.Need-bounds-marks-count
 element-set-from-mark c = search rules
 
-returns : tie.Need-returns
+returns : tie.Need-returns-then-count-lt64
 returns c = search (rules, kept.mark_kept)
 
-returns-2 : tie.Need-returns-2
+returns-2 : tie.Need-returns-else-count-lt64
 returns-2 c = search (rules, kept.all_kept)
 
 pub keep_mark_spec : {M : Type 1} → statement M

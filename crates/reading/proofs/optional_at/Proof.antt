@@ -4,16 +4,16 @@ use Rattle.reading.proofs.Sections as sections
 use Rattle.reading.proofs.optional_at.Statement.{statement}
 use Rattle.reading.proofs.optional_at.Tie as tie
 
-form-at-requires : tie.Need-form-at-requires
+form-at-requires : tie.Need-form_at-line-requires
 form-at-requires c κs = search rules
 
-array-copy-out-value : tie.Need-array-copy-out-value
+array-copy-out-value : tie.Need-bounds-values-0
 array-copy-out-value c = search rules
 
-returns : tie.Need-returns
+returns : tie.Need-returns-then-line
 returns c = search (rules, sections.there)
 
-returns-2 : tie.Need-returns-2
+returns-2 : tie.Need-returns
 returns-2 c = search (rules, sections.left_out)
 
 pub optional_at_spec : {M : Type 1} → statement M

@@ -4,7 +4,7 @@ use Rattle.reading.proofs.Whole as whole
 use Rattle.reading.proofs.refused.Statement.{statement}
 use Rattle.reading.proofs.refused.Tie as tie
 
-zero-job-requires : tie.Need-zero-job-requires
+zero-job-requires : tie.Need-zero_job-job-requires
 zero-job-requires c κs = search rules
 
 returns : tie.Need-returns

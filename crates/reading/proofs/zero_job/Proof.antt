@@ -4,10 +4,10 @@ use Rattle.reading.proofs.Whole as whole
 use Rattle.reading.proofs.zero_job.Statement.{statement}
 use Rattle.reading.proofs.zero_job.Tie as tie
 
-nothing-kept-requires : tie.Need-nothing-kept-requires
+nothing-kept-requires : tie.Need-nothing_kept-places-requires
 nothing-kept-requires c κs = search rules
 
-no-marks-requires : tie.Need-no-marks-requires
+no-marks-requires : tie.Need-no_marks-marks-requires
 no-marks-requires c κs = search rules
 
 returns : tie.Need-returns

@@ -12,67 +12,67 @@ use Rattle.scanning.proofs.Forms as forms
 use Rattle.scanning.proofs.form_at.Statement.{statement}
 use Rattle.scanning.proofs.form_at.Tie as tie
 
-abbrev invariant-loop : tie.invariant-loop
+abbrev invariant-loop : tie.invariant-loop-j
 invariant-loop s at form values₀ count₀ i₀ j₀ values count i j = (read_form form [] (drop at s) ≡ read_form (drop j form) (take count values) (drop i s)) × (count + marks (drop j form) ≡ marks form) × (i ≤ length s) × (j ≤ length form) × (length values ≡ 8) × forms.Spare count values
 
-abbrev decreases-loop : tie.decreases-loop
+abbrev decreases-loop : tie.decreases-loop-j
 decreases-loop s at form values₀ count₀ i₀ j₀ values count i j = length form - j
 
-loop-holds : tie.Need-loop-init invariant-loop decreases-loop
+loop-holds : tie.Need-loop-j-init invariant-loop decreases-loop
 loop-holds c = (refl, omega arith, omega arith, omega arith, refl, forms.all_spare 8 0)
 
-shared-slice-read-wide : tie.Need-shared-slice-read-wide invariant-loop decreases-loop
+shared-slice-read-wide : tie.Need-bounds-form-j invariant-loop decreases-loop
 shared-slice-read-wide c = omega arith
 
-wide-requires : tie.Need-wide-requires invariant-loop decreases-loop
+wide-requires : tie.Need-wide-f-requires invariant-loop decreases-loop
 wide-requires c κs = tt
 
-add-j : tie.Need-overflow-add-j invariant-loop decreases-loop
+add-j : tie.Need-overflow_add-j invariant-loop decreases-loop
 add-j c = omega arith
 
-number-at-requires : tie.Need-number-at-requires invariant-loop decreases-loop
+number-at-requires : tie.Need-number_at-n-requires invariant-loop decreases-loop
 number-at-requires c κs = tt
 
-no-line-requires : tie.Need-no-line-requires invariant-loop decreases-loop
+no-line-requires : tie.Need-no_line-requires invariant-loop decreases-loop
 no-line-requires c κs = tt
 
-returns : tie.Need-returns invariant-loop decreases-loop
+returns : tie.Need-returns-then-not-n invariant-loop decreases-loop
 returns c = rw c.no_line.ensures (search (rules, forms.mark_none, not-true), (search rules, search (rules, forms.none_spare)))
 
-mul-values : tie.Need-overflow-mul-values invariant-loop decreases-loop
+mul-values : tie.Need-offset_bounds-values-count invariant-loop decreases-loop
 mul-values c = search (rules, forms.room_offset)
 
-array-set-from-values : tie.Need-array-set-from-values invariant-loop decreases-loop
+array-set-from-values : tie.Need-bounds-values-count invariant-loop decreases-loop
 array-set-from-values c = search (rules, forms.room)
 
-add-count : tie.Need-overflow-add-count invariant-loop decreases-loop
+add-count : tie.Need-overflow_add-count invariant-loop decreases-loop
 add-count c = search (rules, forms.room_next)
 
-loop-less : tie.Need-loop-smaller invariant-loop decreases-loop
+loop-less : tie.Need-loop-j-smaller-then-f-eq35 invariant-loop decreases-loop
 loop-less c = omega arith
 
-loop-again : tie.Need-loop-preserved invariant-loop decreases-loop
+loop-again : tie.Need-loop-j-preserved-then-f-eq35 invariant-loop decreases-loop
 loop-again c = (search (rules, forms.mark_again, forms.room, not-false), search (rules, forms.left_mark), search rules, search rules, search (rules, forms.length_after), search (rules, forms.still_spare))
 
-byte-at-requires : tie.Need-byte-at-requires invariant-loop decreases-loop
+byte-at-requires : tie.Need-byte_at-b-requires invariant-loop decreases-loop
 byte-at-requires c κs = tt
 
-no-line-requires-2 : tie.Need-no-line-requires-2 invariant-loop decreases-loop
+no-line-requires-2 : tie.Need-no_line-requires-then-b-f invariant-loop decreases-loop
 no-line-requires-2 c κs = tt
 
-returns-2 : tie.Need-returns-2 invariant-loop decreases-loop
-returns-2 c = rw c.no-line2.ensures (search (rules, forms.byte_none), (search rules, search (rules, forms.none_spare)))
+returns-2 : tie.Need-returns-then-b-f invariant-loop decreases-loop
+returns-2 c = rw c.no_line-then-b-f.ensures (search (rules, forms.byte_none), (search rules, search (rules, forms.none_spare)))
 
-add-i : tie.Need-overflow-add-i invariant-loop decreases-loop
+add-i : tie.Need-overflow_add-i invariant-loop decreases-loop
 add-i c = search (rules, forms.byte_fits)
 
-loop-less-2 : tie.Need-loop-smaller-2 invariant-loop decreases-loop
+loop-less-2 : tie.Need-loop-j-smaller invariant-loop decreases-loop
 loop-less-2 c = omega arith
 
-loop-again-2 : tie.Need-loop-preserved-2 invariant-loop decreases-loop
+loop-again-2 : tie.Need-loop-j-preserved invariant-loop decreases-loop
 loop-again-2 c = (search (rules, forms.byte_again), search (rules, forms.left_byte), search (rules, forms.byte_in), search rules, search rules, search rules)
 
-returns-3 : tie.Need-returns-3 invariant-loop decreases-loop
+returns-3 : tie.Need-returns invariant-loop decreases-loop
 returns-3 c = (search (rules, forms.at_end), (search rules, search (rules, forms.spare_end)))
 
 pub form_at_spec : {M : Type 1} → statement M

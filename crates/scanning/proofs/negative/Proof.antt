@@ -4,10 +4,10 @@ use Rattle.scanning.proofs.Numbers as steps
 use Rattle.scanning.proofs.negative.Statement.{statement}
 use Rattle.scanning.proofs.negative.Tie as tie
 
-cast-result : tie.Need-overflow-cast-result
+cast-result : tie.Need-overflow_cast-result
 cast-result c = search rules
 
-sub-result : tie.Need-overflow-sub-result
+sub-result : tie.Need-overflow_sub-result
 sub-result c = search (rules, steps.minus_fits)
 
 returns : tie.Need-returns

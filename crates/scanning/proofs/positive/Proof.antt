@@ -4,7 +4,7 @@ use Rattle.scanning.proofs.Numbers as steps
 use Rattle.scanning.proofs.positive.Statement.{statement}
 use Rattle.scanning.proofs.positive.Tie as tie
 
-cast-result : tie.Need-overflow-cast-result
+cast-result : tie.Need-overflow_cast-result
 cast-result c = search rules
 
 returns : tie.Need-returns

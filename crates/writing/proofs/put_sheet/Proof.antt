@@ -9,45 +9,39 @@ use Rattle.writing.proofs.Sheets as sheets
 use Rattle.writing.proofs.put_sheet.Statement.{statement}
 use Rattle.writing.proofs.put_sheet.Tie as tie
 
-head-of-requires : tie.Need-head-of-requires
+head-of-requires : tie.Need-head_of-head-requires
 head-of-requires c κs = search rules
 
-slice-aggregate-put-head : tie.Need-slice-aggregate-put-head
-slice-aggregate-put-head c = search rules
+head-shared : tie.Need-slice_bounds-put_head-end
+head-shared c = search rules
 
-put-head-requires : tie.Need-put-head-requires
+put-head-requires : tie.Need-put_head-a-requires
 put-head-requires c κs = (search rules, (search (rules, sheets.head_five), search (rules, sheets.head_ready)))
 
-slice-aggregate-put-optional : tie.Need-slice-aggregate-put-optional
-slice-aggregate-put-optional c = search rules
-
-put-optional-requires : tie.Need-put-optional-requires
+put-optional-requires : tie.Need-put_optional-b-requires
 unfolding marks weight
 put-optional-requires c κs = (omega arith, (refl, search (rules, sheets.grain_ready)))
 
-slice-aggregate-put-edges : tie.Need-slice-aggregate-put-edges
-slice-aggregate-put-edges c = search rules
+marks-shared : tie.Need-slice_bounds-put_edges-end
+marks-shared c = search rules
 
-slice-aggregate-put-edges-2 : tie.Need-slice-aggregate-put-edges-2
-slice-aggregate-put-edges-2 c = search rules
+places-shared : tie.Need-slice_bounds-put_edges-end-2
+places-shared c = search rules
 
-put-edges-requires : tie.Need-put-edges-requires
+put-edges-requires : tie.Need-put_edges-c-requires
 unfolding grain_form
 put-edges-requires c κs =
-    let t = c.before.before.before.before.before.before.before.before.struct_told.given.1.1.1.1.1.1.1.1.0 in
+    let t = c.before.before.before.before.before.before.before.before.struct_told-1.given.1.1.1.1.1.1.1.1.0 in
     (search (rules, sheets.edges_space), ((search (rules, sheets.marks_there, t), search (rules, sheets.places_there)), search (rules, sheets.places_ready)))
 
-slice-aggregate-put-form : tie.Need-slice-aggregate-put-form
-slice-aggregate-put-form c = search rules
+head-shared-again : tie.Need-slice_bounds-put_form-end-2
+head-shared-again c = search rules
 
-slice-aggregate-put-form-2 : tie.Need-slice-aggregate-put-form-2
-slice-aggregate-put-form-2 c = search rules
-
-put-form-requires : tie.Need-put-form-requires
+put-form-requires : tie.Need-put_form-requires
 unfolding grain_form marks weight
 put-form-requires c κs = (search (rules, sheets.end_space), (omega arith, search (rules, sheets.head_ready)))
 
-same_length : tie.Need-same-length
+same_length : tie.Need-shape_of-out
 same_length c = search rules
 
 returns : tie.Need-returns
@@ -59,13 +53,13 @@ returns c =
     let h = o.before.before.before.before.before.before in
     let d = h.before.before.before in
     let s = d.before.before in
-    let x : length s.args.job.places ≡ 512 = search (rules, o.before.struct_told.given.1.1.1.1.1.1.1.0) in (
-      sheets.sheet_put s.args.job s.requires.0 s.args.out.now h.put-head.new.0 o.put-optional.new.0 e.put-edges.new.0 f.put-form.new.0
-          h.put-head.result o.put-optional.result e.put-edges.result f.put-form.result d.head_of.result
-          h.put-head.ensures.0 o.put-optional.ensures.0 e.put-edges.ensures.0 f.put-form.ensures.0 d.head_of.ensures x,
-      sheets.end_by s.args.job s.requires.0 s.args.out.now h.put-head.new.0 o.put-optional.new.0
-          h.put-head.result o.put-optional.result d.head_of.result d.head_of.ensures h.put-head.ensures.0 o.put-optional.ensures.0
-          e.put-edges.result f.put-form.result e.put-edges.ensures.1 f.put-form.ensures.1,
+    let x : length s.args.job.places ≡ 512 = search (rules, o.before.struct_told-1.given.1.1.1.1.1.1.1.0) in (
+      sheets.sheet_put s.args.job s.requires.0 s.args.out.now h.put_head-a.new.out o.put_optional-b.new.out e.put_edges-c.new.out f.put_form.new.out
+          h.put_head-a.result o.put_optional-b.result e.put_edges-c.result f.put_form.result d.head_of-head.result
+          h.put_head-a.ensures.0 o.put_optional-b.ensures.0 e.put_edges-c.ensures.0 f.put_form.ensures.0 d.head_of-head.ensures x,
+      sheets.end_by s.args.job s.requires.0 s.args.out.now h.put_head-a.new.out o.put_optional-b.new.out
+          h.put_head-a.result o.put_optional-b.result d.head_of-head.result d.head_of-head.ensures h.put_head-a.ensures.0 o.put_optional-b.ensures.0
+          e.put_edges-c.result f.put_form.result e.put_edges-c.ensures.1 f.put_form.ensures.1,
     )
 
 pub put_sheet_spec : {M : Type 1} → statement M
@@ -73,15 +67,13 @@ put_sheet_spec =
     tie.close
     (tie.spec
     head-of-requires
-    slice-aggregate-put-head
+    head-shared
     put-head-requires
-    slice-aggregate-put-optional
     put-optional-requires
-    slice-aggregate-put-edges
-    slice-aggregate-put-edges-2
+    marks-shared
+    places-shared
     put-edges-requires
-    slice-aggregate-put-form
-    slice-aggregate-put-form-2
+    head-shared-again
     put-form-requires
     same_length
     returns)
