@@ -1,5 +1,7 @@
 // One strip and one row of a map's cells: the columns in which the strip is not away lie side by side, and so do those in which it is inside. Each
 // is found from columns that are known to hold them all, by a walk in from both ends.
+#![tactic(auto)]
+
 ghost use Rattle.std.specs.Prelude.{◌≡◌, not, ◌&&◌, ℕ, ◌-◌, ◌≤◌, ◌<◌, T, pos, nat_abs, length};
 ghost use Rattle.std.specs.Int.Signed.{le_z};
 ghost use Rattle.integers.specs.Absolute.{absℤ};
@@ -18,7 +20,7 @@ use spans::{Span, Step};
 
 // Where rows of a map lie: cells a row, the lower left corner of the first row and half a smallest cell's side in fine units, the logarithm of
 // the whole side, and the reach in fine units.
-#[derive(Drop)]
+#[derive(Clone, Copy)]
 pub struct Frame {
     pub n: usize,
     pub x: i64,
@@ -30,7 +32,7 @@ pub struct Frame {
 
 // A strip as seen from the middle of the frame's first cell: its centre, its axis, its box with half a smallest cell's side, and the half sides of
 // the upright box around axis and box.
-#[derive(Drop)]
+#[derive(Clone, Copy)]
 pub struct View {
     pub x: i64,
     pub y: i64,

@@ -1,5 +1,7 @@
 // The map of a job from a store that holds its trees, in one of two ways. The plate is quartered: a block that its open trees settle is filled at
 // once, and each quarter of any other asks only the trees that are still open. Or, where the reach is small, each tree is drawn over the rows.
+#![tactic(auto)]
+
 ghost use Rattle.std.specs.Prelude.{◌≡◌, true, false, List, ℕ, ◌+◌, ◌*◌, ◌^◌, ◌≤◌, ◌<◌, T, pos, nat_abs, ◌+ℤ◌, ◌*ℤ◌, length, take};
 ghost use Rattle.std.specs.Int.Signed.{non_neg, le_z};
 ghost use Rattle.model.specs.Jobs.{judge, cell_log};
@@ -63,7 +65,7 @@ fn look(
 }
 
 // What the open trees tell of a block: the letter of all its cells, or 0 and how many trees are still open.
-#[derive(Drop)]
+#[derive(Clone, Copy)]
 struct Told {
     letter: u8,
     kept: usize,

@@ -1,5 +1,7 @@
 // The length of an axis, rounded up to a whole number. Newton's steps give a guess, and two loops put any guess right, so that nothing has to be
 // known of the steps but that they stay in their bounds.
+#![tactic(auto)]
+
 ghost use Rattle.std.specs.Prelude.{◌≡◌, ◌+◌, ◌*◌, ◌≤◌, ◌<◌};
 ghost use Rattle.model.specs.Roots.{root};
 

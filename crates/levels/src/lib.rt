@@ -1,4 +1,6 @@
 // The open columns of up to 256 rows at each of twelve levels: where they begin in one array, and where they end in another.
+#![tactic(auto)]
+
 ghost use Rattle.std.specs.Prelude.{◌≡◌, ℕ, ◌≤◌, ◌<◌, get_or};
 ghost use Rattle.levels.specs.Open.{place_of, span_in, normal_of, Long, Small, Levels};
 

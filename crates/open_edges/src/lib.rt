@@ -1,5 +1,7 @@
 // The edges that are open for a cell: where their trees start in the store, and the loop that asks each of them and keeps those that are not
 // away, so that no part of the cell asks them again.
+#![tactic(auto)]
+
 ghost use Rattle.std.specs.Prelude.{◌≡◌, true, false, List, ◌≤◌, length, take};
 ghost use Rattle.model.specs.Trees.{Tree};
 ghost use Rattle.model.specs.Explore.{explore};
@@ -23,7 +25,7 @@ fn ask(store: &[i32], a: usize, probe: Probe) -> u8
 }
 
 // Whether some tree is inside, and if none is, how many are not away.
-#[derive(Drop)]
+#[derive(Clone, Copy)]
 pub struct Seen {
     pub inside: bool,
     pub kept: usize,
@@ -54,7 +56,8 @@ pub fn explore_open(
             };
         }
         k += 1;
-        if answer == 1 {
+        let open = answer == 1;
+        if open {
             keep[kept] = a;
             kept += 1;
         }

@@ -1,4 +1,6 @@
 // Bytes that only grow: a stretch of a row of n bytes raised to a byte where it is below it.
+#![tactic(auto)]
+
 ghost use Rattle.std.specs.Prelude.{◌≡◌, ◌&&◌, ℕ, ◌+◌, ◌*◌, ◌≤◌, ◌<◌, max, eqb, length, get_or};
 ghost use Rattle.spans.specs.Among.{among};
 ghost use Rattle.filling.specs.Squares.{Drawn};

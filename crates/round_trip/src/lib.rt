@@ -1,4 +1,6 @@
 // A caller of the library, proved from its face alone: a job goes into a sheet and comes back, and the job that came back is mapped.
+#![tactic(auto)]
+
 ghost use Rattle.std.specs.Prelude.{◌≡◌};
 ghost use Rattle.model.specs.Entries as entries;
 ghost use Rattle.model.specs.Promises.{MapHolds};
@@ -6,7 +8,7 @@ ghost use Rattle.model.specs.Promises.{MapHolds};
 use model::Job;
 
 // What each of the three calls gave: the refusals of writing and of drawing, or 0, and the job that was read.
-#[derive(Drop)]
+#[derive(Clone, Copy)]
 pub struct Trip {
     pub written: u8,
     pub job: Job,

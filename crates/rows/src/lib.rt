@@ -1,5 +1,7 @@
 // A tree drawn over the rows of a map: each cell's byte is raised to what the tree answers for it. A node's answer for a whole row is two stretches
 // of columns, and its halves are asked only where it is not away.
+#![tactic(auto)]
+
 ghost use Rattle.std.specs.Prelude.{◌≡◌, false, not, cond, ◌&&◌, ℕ, ◌+◌, ◌*◌, ◌≤◌, ◌<◌, max, ltb, length, get_or};
 ghost use Rattle.model.specs.Trees.{Tree};
 ghost use Rattle.model.specs.Store.{flatten};

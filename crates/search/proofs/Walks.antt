@@ -74,7 +74,7 @@ module _ {v : Strip → Answer} {l : List ℤ} {t : Tree} {found at here n : ℕ
 
   -- one that is inside settles all
   pub inside_ends : here ≡ 2 → code (explore v t) ≡ 2
-  inside_ends e = omega (arith, w.joined, w.here-is, closed v w.tree (λ k. omega (arith, k, w.here-is, e)), code_few (explore v t))
+  inside_ends e = omega (arith, w.joined, w.here_is, closed v w.tree (λ k. omega (arith, k, w.here_is, e)), code_few (explore v t))
 
   -- one that is away is done with, and its halves too
   pub past_away : {p : ℕ} → p ≡ at + width * n → here ≡ 0 → Sofar v l t found p
@@ -82,7 +82,7 @@ module _ {v : Strip → Answer} {l : List ℤ} {t : Tree} {found at here n : ℕ
     low = w.low;
     pending = w.others;
     rest = subst (λ (k : ℕ). Rest l k w.others) (omega (arith, i, w.n_is)) (pending.past l at w.tree w.others w.rest);
-    joined = omega (arith, w.joined, w.here-is, closed v w.tree (λ k. omega (arith, k, w.here-is, e)));
+    joined = omega (arith, w.joined, w.here_is, closed v w.tree (λ k. omega (arith, k, w.here_is, e)));
   }
 
   -- a leaf that is maybe is found
@@ -91,17 +91,17 @@ module _ {v : Strip → Answer} {l : List ℤ} {t : Tree} {found at here n : ℕ
     low = omega (arith, j);
     pending = w.others;
     rest = subst (λ (k : ℕ). Rest l k w.others) (omega (arith, i, w.n_is, k)) (pending.past l at w.tree w.others w.rest);
-    joined = omega (arith, j, w.joined, w.low, w.here-is, alone v w.tree (sym w.n_is ∙ k));
+    joined = omega (arith, j, w.joined, w.low, w.here_is, alone v w.tree (sym w.n_is ∙ k));
   }
 
   -- and settles all where no node answers above that
   pub leaf_ends : here ≡ 1 → n ≡ 1 → code (explore v t) ≤ 1 → code (explore v t) ≡ 1
-  leaf_ends e k h = omega (arith, w.joined, w.here-is, alone v w.tree (sym w.n_is ∙ k))
+  leaf_ends e k h = omega (arith, w.joined, w.here_is, alone v w.tree (sym w.n_is ∙ k))
 
   -- the halves of any other come next
   pub into_halves : {p : ℕ} → p ≡ at + width → here ≡ 1 → (n ≡ 1 → ⊥) → Sofar v l t found p
   unfolding explore
-  into_halves {p} i e k = go w.tree w.rest w.joined (sym w.here-is ∙ e) (λ z. k (w.n_is ∙ z))
+  into_halves {p} i e k = go w.tree w.rest w.joined (sym w.here_is ∙ e) (λ z. k (w.n_is ∙ z))
     where
       go : (u : Tree) → Rest l at (u ∷ w.others) → code (explore v t) ≡ max found (max (code (explore v u)) (told v w.others)) → code (v (top u)) ≡ 1 → (size u ≡ 1 → ⊥) → Sofar v l t found p
       go (leaf s) r j f z = absurd (z refl)

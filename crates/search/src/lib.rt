@@ -1,5 +1,7 @@
 // A cell's answer from one edge's part of the store, by one loop over its nodes. Answers are 0 away, 1 maybe, 2 inside, as `code` gives them, so
 // that joined the larger holds.
+#![tactic(auto)]
+
 ghost use Rattle.std.specs.Prelude.{◌≡◌, ◌≤◌, ◌<◌, ℤ, nat_abs, T, length};
 ghost use Rattle.std.specs.Int.Signed.{non_neg};
 ghost use Rattle.model.specs.Trees.{Tree};
@@ -14,7 +16,7 @@ ghost use Rattle.search.specs.Probes.{CellSized, cell_at, judged_by, Enough, Fai
 use nodes::{COUNT, WIDTH, X, Y, count_at, extent_at};
 
 // What a cell asks of every strip: the cell's centre and half side and the reach, in fine units, and the answer above which no strip goes.
-#[derive(Drop)]
+#[derive(Clone, Copy)]
 pub struct Probe {
     pub x: i64,
     pub y: i64,
@@ -69,16 +71,20 @@ pub fn search(part: &[i32], probe: Probe) -> u8
     let mut at: usize = 0;
     while at < part.len() {
         let here = own(&part[at..], probe);
-        if here == 2 {
+        let inside = here == 2;
+        if inside {
             return 2;
         }
         let n = count_at(part, at + COUNT);
-        if here == 0 {
+        let away = here == 0;
+        if away {
             at += WIDTH * n;
         } else {
             at += WIDTH;
-            if n == 1 {
-                if enough <= 1 {
+            let leaf = n == 1;
+            if leaf {
+                let settles = enough <= 1;
+                if settles {
                     return 1;
                 }
                 found = 1;

@@ -1,18 +1,20 @@
 // Columns, or rows, that lie side by side: those that two stretches share, and those whose middles are no farther from a place than a distance.
+#![tactic(auto)]
+
 ghost use Rattle.std.specs.Prelude.{◌≡◌, ◌&&◌, ℕ, ◌/◌, ◌≤◌, T, ltb, leb, pos, nat_abs, ◌-ℤ◌, ◌*ℤ◌};
 ghost use Rattle.std.specs.Int.Signed.{le_z, non_neg};
 ghost use Rattle.integers.specs.Absolute.{absℤ};
 ghost use Rattle.spans.specs.Among.{among, StepSized};
 
 // From lo to below hi. None where hi is not above lo.
-#[derive(Drop)]
+#[derive(Clone, Copy)]
 pub struct Span {
     pub lo: usize,
     pub hi: usize,
 }
 
 // A step between places: its length and, where that is a power of two, its logarithm, else 64.
-#[derive(Drop)]
+#[derive(Clone, Copy)]
 pub struct Step {
     pub d: i64,
     pub k: usize,

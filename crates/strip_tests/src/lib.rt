@@ -1,5 +1,7 @@
 // What one strip says of one cell, in 64-bit numbers and with no square root. Taken apart into the tests of RULES, "Explore",
 // each over plain numbers: w from the strip's centre to the cell's, the axis (p, q), the box halves with the half side.
+#![tactic(auto)]
+
 ghost use Rattle.std.specs.Prelude.{◌≡◌, ◌≤◌, nat_abs};
 ghost use Rattle.model.specs.Jobs.{is_zero};
 ghost use Rattle.strip_tests.specs.PlainTests.{inside_by, apart_by, excess_by, most_by, cap_by, is_beyond, slanted_by, judge_by, code};

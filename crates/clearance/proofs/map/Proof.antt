@@ -9,10 +9,10 @@ use Rattle.clearance.proofs.map.Tie as tie
 map-requires : tie.Need-map-requires
 map-requires c κs = search rules
 
-same_length : tie.Need-same-length
+same_length : tie.Need-shape_of-store
 same_length c = search rules
 
-same-length-2 : tie.Need-same-length-2
+same-length-2 : tie.Need-shape_of-cells
 same-length-2 c = search rules
 
 returns : tie.Need-returns

@@ -8,7 +8,7 @@ use Rattle.clearance.proofs.points.Tie as tie
 points-requires : tie.Need-points-requires
 points-requires c κs = search rules
 
-same_length : tie.Need-same-length
+same_length : tie.Need-shape_of-reply
 same_length c = search rules
 
 returns : tie.Need-returns

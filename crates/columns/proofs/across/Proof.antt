@@ -27,26 +27,26 @@ module _ (s : tie.Start) where
   f = s.args.frame
 
   p : Made v.p v.p 536870912
-  p = p_made v s.pre.0
+  p = p_made v s.requires.0
 
   q : Made v.q v.q 536870912
-  q = q_made v s.pre.0
+  q = q_made v s.requires.0
 
   w : Made s.args.w s.args.w 1073741824
-  w = arg s.pre.3 s.fits.w
+  w = arg s.requires.3 s.ranges.w
 
   room : Made s.args.room s.args.room 1152921504606846976
-  room = arg s.pre.2.size s.fits.room
+  room = arg s.requires.2.size s.ranges.room
 
-aq : (c : tie.After-abs) → Made c.abs.result (absℤ (v c.before.before.before.before.before.before.before.before).q) 536870912
-aq c = abs_of (q c.before.before.before.before.before.before.before.before) c.abs.ensures tt
+aq : (c : tie.After-abs-aq) → Made c.abs-aq.result (absℤ (v c.before.before.before.before.before.before.before.before).q) 536870912
+aq c = abs_of (q c.before.before.before.before.before.before.before.before) c.abs-aq.ensures tt
 
 -- the axis lies neither along x nor along y
-p_not : (c : tie.Else1) → is_zero (v c.before.before.before).p ≡ false
-p_not c = zero_left (p c.before.before.before) c.if1.false
+p_not : (c : tie.Else-v-eq0) → is_zero (v c.before.before.before).p ≡ false
+p_not c = zero_left (p c.before.before.before) c.if-v-eq0.false
 
-q_not : (c : tie.Else2) → is_zero (v c.before.before.before.before.before.before).q ≡ false
-q_not c = zero_left (q c.before.before.before.before.before.before) c.if2.false
+q_not : (c : tie.Else-v-eq0-2) → is_zero (v c.before.before.before.before.before.before).q ≡ false
+q_not c = zero_left (q c.before.before.before.before.before.before) c.if-v-eq0-2.false
 
 -- what the columns share, and the step from one to the next
 module _ (e : tie.After-along) where
@@ -59,49 +59,49 @@ module _ (e : tie.After-along) where
   first : Made (bits start.args.w *ℤ bits e.along.result) (start.args.w *ℤ along_q (v start).p (v start).q) 576460752303423488
   first = times (w start) along tt
 
-  second : Made (bits (v start).x *ℤ bits e.before.before.before.abs.result) ((v start).x *ℤ absℤ (v start).q) 310748374288564224
-  second = times (vx_made (v start) start.pre.0) (aq e.before.before.before) tt
+  second : Made (bits (v start).x *ℤ bits e.before.before.before.abs-aq.result) ((v start).x *ℤ absℤ (v start).q) 310748374288564224
+  second = times (vx_made (v start) start.requires.0) (aq e.before.before.before) tt
 
-  u : Made (bits (bits start.args.w *ℤ bits e.along.result) +ℤ bits (bits (v start).x *ℤ bits e.before.before.before.abs.result)) (shared start.args.w (v start).x (v start).p (v start).q) 887209126591987712
+  u : Made (bits (bits start.args.w *ℤ bits e.along.result) +ℤ bits (bits (v start).x *ℤ bits e.before.before.before.abs-aq.result)) (shared start.args.w (v start).x (v start).p (v start).q) 887209126591987712
   u = plus first second tt
 
-  d : Made (bits (to_z w64 2 *ℤ bits (f start).q) *ℤ bits e.before.before.before.abs.result) (pos 2 *ℤ (f start).q *ℤ absℤ (v start).q) 9007199254740992
-  d = times (side_made (f start) start.pre.1) (aq e.before.before.before) tt
+  d : Made (bits (to_z w64 2 *ℤ bits (f start).q) *ℤ bits e.before.before.before.abs-aq.result) (pos 2 *ℤ (f start).q *ℤ absℤ (v start).q) 9007199254740992
+  d = times (side_made (f start) start.requires.1) (aq e.before.before.before) tt
 
   step : StepSized (shared start.args.w (v start).x (v start).p (v start).q) (record { d = pos 2 *ℤ (f start).q *ℤ absℤ (v start).q; k = 64 })
   step =
-      let z = side_sized (f start) start.pre.1 (pos 0) (omega arith) in
+      let z = side_sized (f start) start.requires.1 (pos 0) (omega arith) in
       step_sized (shared start.args.w (v start).x (v start).p (v start).q) (pos 2 *ℤ (f start).q) (absℤ (v start).q) 64 (omega (arith, u.within)) z.d_nonneg (abs_is_nonneg (v start).q) z.d_above (abs_above (v start).q (q_not e.before.before.before.before.before)) (omega (arith, d.within)) (λ h. absurd (omega (arith, h)))
 
-returns : tie.Need-returns
+returns : tie.Need-returns-then-v-eq0
 returns c =
     let s = c.before.before.before in
-    (λ i. all_p (f s) (v s) s.args.w i (among s.args.c i) (zero_taken (p s) c.if1.true), omega arith)
+    (λ i. all_p (f s) (v s) s.args.w i (among s.args.c i) (zero_taken (p s) c.if-v-eq0.true), omega arith)
 
-returns-2 : tie.Need-returns-2
+returns-2 : tie.Need-returns-then-v-eq0-2
 returns-2 c =
     let s = c.before.before.before.before.before.before in
-    (λ i. all_q (f s) (v s) s.args.w i (among s.args.c i) (zero_taken (q s) c.if2.true), omega arith)
+    (λ i. all_q (f s) (v s) s.args.w i (among s.args.c i) (zero_taken (q s) c.if-v-eq0-2.true), omega arith)
 
-abs-requires : tie.Need-abs-requires
+abs-requires : tie.Need-abs-aq-requires
 abs-requires c κs = sized 4000000000000000000 (q c.before.before.before.before.before.before.before) tt
 
 along-requires : tie.Need-along-requires
 along-requires c κs = search rules
 
-mul-u : tie.Need-overflow-mul-u
-mul-u c = (first c).ranges
+mul-u : tie.Need-overflow_mul-u
+mul-u c = (first c).fits
 
-mul-u-2 : tie.Need-overflow-mul-u-2
+mul-u-2 : tie.Need-overflow_mul-u-2
 mul-u-2 c = (second c.before.before).fits
 
-add-u : tie.Need-overflow-add-u
+add-u : tie.Need-overflow_add-u
 add-u c = (u c.before.before).fits
 
-mul-d : tie.Need-overflow-mul-d
+mul-d : tie.Need-overflow_mul-d
 mul-d c = let s = c.before.before.before.before.before.before.before.before.before.before.before.before.before.before.before in (side_made (f s) s.requires.1).fits
 
-mul-d-2 : tie.Need-overflow-mul-d-2
+mul-d-2 : tie.Need-overflow_mul-d-2
 mul-d-2 c = (d c.before.before.before.before).fits
 
 around-requires : tie.Need-around-requires
@@ -112,7 +112,7 @@ around-requires c κs =
 meet-requires : tie.Need-meet-requires
 meet-requires c κs = search rules
 
-returns-3 : tie.Need-returns-3
+returns-3 : tie.Need-returns
 returns-3 c =
     let e = c.before.before.before.before.before.before in
     let s = e.before.before.before.before.before.before.before.before.before.before.before in

@@ -22,14 +22,14 @@ below p q e = rw e
 above : (p q : ℤ) → lt_z q (pos 0) ≡ false → p ≡ along_q p q
 above p q e = rw e
 
-sub-result : tie.Need-overflow-sub-result
+sub-result : tie.Need-overflow_sub-result
 sub-result c = (minus (lit 0 tt) (p c.before) tt).fits
 
-returns : tie.Need-returns
-returns c = let s = c.before in back (minus (lit 0 tt) (p s) tt) ∙ below s.args.p s.args.q (test_lt (q s) (lit 0 tt) c.if1.true)
+returns : tie.Need-returns-then-q-lt0
+returns c = let s = c.before in back (minus (lit 0 tt) (p s) tt) ∙ below s.args.p s.args.q (test_lt (q s) (lit 0 tt) c.if-q-lt0.true)
 
-returns-2 : tie.Need-returns-2
-returns-2 c = let s = c.before in back (p s) ∙ above s.args.p s.args.q (test_lt (q s) (lit 0 tt) c.if1.false)
+returns-2 : tie.Need-returns-else-q-lt0
+returns-2 c = let s = c.before in back (p s) ∙ above s.args.p s.args.q (test_lt (q s) (lit 0 tt) c.if-q-lt0.false)
 
 pub along_spec : {M : Type 1} → statement M
 along_spec = tie.close (tie.spec sub-result returns returns-2)

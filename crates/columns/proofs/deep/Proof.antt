@@ -7,10 +7,10 @@ use Rattle.columns.proofs.Numbers.{gap_of, vy_made}
 use Rattle.columns.proofs.deep.Statement.{statement}
 use Rattle.columns.proofs.deep.Tie as tie
 
-y : (g : tie.After-gap) → Made g.gap.result (off g.before.before.args.frame.q g.before.before.args.v.y (pos g.before.before.args.j)) 1073741824
-y g = gap_of g.before.before.args.frame.q g.before.before.args.j (vy_made g.before.before.args.v g.before.before.requires.0) g.gap.ensures.0 g.gap.ensures.1
+y : (g : tie.After-gap-w) → Made g.gap-w.result (off g.before.before.args.frame.q g.before.before.args.v.y (pos g.before.before.args.j)) 1073741824
+y g = gap_of g.before.before.args.frame.q g.before.before.args.j (vy_made g.before.before.args.v g.before.before.requires.0) g.gap-w.ensures.0 g.gap-w.ensures.1
 
-gap-requires : tie.Need-gap-requires
+gap-requires : tie.Need-gap-w-requires
 gap-requires c κs = search rules
 
 walk-requires : tie.Need-walk-requires

@@ -12,10 +12,10 @@ use Rattle.columns.proofs.Walks.{none_here, found}
 use Rattle.columns.proofs.end_column.Statement.{statement}
 use Rattle.columns.proofs.end_column.Tie as tie
 
-abbrev invariant-loop : tie.invariant-loop
+abbrev invariant-loop : tie.invariant-loop-h
 invariant-loop v frame w lo hi deep h₀ h = (h ≤ hi) × ((i : ℕ) → lo ≤ i → h ≤ i → i < hi → T (test_at deep frame v (to_z w64 w) i) → ⊥)
 
-abbrev decreases-loop : tie.decreases-loop
+abbrev decreases-loop : tie.decreases-loop-h
 decreases-loop v frame w lo hi deep h₀ h = h
 
 module _ (s : tie.Start invariant-loop decreases-loop) where
@@ -26,35 +26,35 @@ module _ (s : tie.Start invariant-loop decreases-loop) where
   abbrev P : ℕ → Bool
   P = test_at s.args.deep s.args.frame s.args.v (bits s.args.w)
 
-loop-holds : tie.Need-loop-init invariant-loop decreases-loop
+loop-holds : tie.Need-loop-h-init invariant-loop decreases-loop
 loop-holds c = (omega arith, λ i a b k t. omega arith)
 
-sub-last : tie.Need-overflow-sub-last invariant-loop decreases-loop
+sub-last : tie.Need-overflow_sub-last invariant-loop decreases-loop
 sub-last c = omega arith
 
 holds-requires : tie.Need-holds-requires invariant-loop decreases-loop
-holds-requires c κs = let s = c.before.before in rw (back (w s)) (s.requires.0, s.requires.1, s.requires.2, omega (arith, s.requires.3, c.before.loop.invariant.0))
+holds-requires c κs = let s = c.before.before in rw (back (w s)) (s.requires.0, s.requires.1, s.requires.2, omega (arith, s.requires.3, c.before.loop-h.invariant.0))
 
-returns : tie.Need-returns invariant-loop decreases-loop
+returns : tie.Need-returns-then-holds invariant-loop decreases-loop
 returns c =
-    let l = c.before.before.before.loop in
+    let l = c.before.before.before.loop-h in
     let s = c.before.before.before.before in
-    (l.invariant.0, (rw (back (w s)) at l.invariant.1, λ h. rw (back (w s)) at (found (P s) (l.h - 1) c.before.holds.ensures c.if1.true)))
+    (l.invariant.0, (rw (back (w s)) at l.invariant.1, λ h. rw (back (w s)) at (found (P s) (l.h - 1) c.before.holds.ensures c.if-holds.true)))
 
-loop-less : tie.Need-loop-smaller invariant-loop decreases-loop
+loop-less : tie.Need-loop-h-smaller invariant-loop decreases-loop
 loop-less c = omega arith
 
-loop-again : tie.Need-loop-preserved invariant-loop decreases-loop
+loop-again : tie.Need-loop-h-preserved invariant-loop decreases-loop
 loop-again c =
-    let l = c.before.before.before.loop in (
+    let l = c.before.before.before.loop-h in (
       omega (arith, l.invariant.0),
-      λ i a b k t. elim (dec_le l.h i) [ yes p ↦ l.invariant.1 i a p k t | no p ↦ none_here (P c.before.before.before.before) (l.h - 1) i c.before.holds.ensures c.if1.false (omega arith) t ],
+      λ i a b k t. elim (dec_le l.h i) [ yes p ↦ l.invariant.1 i a p k t | no p ↦ none_here (P c.before.before.before.before) (l.h - 1) i c.before.holds.ensures c.if-holds.false (omega arith) t ],
     )
 
-returns-2 : tie.Need-returns-2 invariant-loop decreases-loop
+returns-2 : tie.Need-returns invariant-loop decreases-loop
 returns-2 c =
-    let l = c.before.loop in
-    (l.invariant.0, (rw (back (w c.before.before)) at l.invariant.1, λ h. absurd (omega (arith, c.loop-test.false, h))))
+    let l = c.before.loop-h in
+    (l.invariant.0, (rw (back (w c.before.before)) at l.invariant.1, λ h. absurd (omega (arith, c.loop-h-test.false, h))))
 
 pub end_column_spec : {M : Type 1} → statement M
 end_column_spec =

@@ -14,16 +14,16 @@ use Rattle.columns.proofs.gap.Tie as tie
 difference : (c : tie.Start) → Made (bits (bits (to_z w64 2 *ℤ bits c.args.frame.q) *ℤ to_z w64 c.args.i) -ℤ bits c.args.z) (off c.args.frame.q c.args.z (pos c.args.i)) 595591168
 difference c = minus (place_made c.args.frame c.requires.2 c.args.i c.requires.0) (arg c.requires.1 c.ranges.z) tt
 
-mul-result : tie.Need-overflow-mul-result
+mul-result : tie.Need-overflow_mul-result
 mul-result c = (side_made c.before.before.args.frame c.before.before.requires.2).fits
 
-cast-result : tie.Need-overflow-cast-result
+cast-result : tie.Need-overflow_cast-result
 cast-result c = search rules
 
-mul-result-2 : tie.Need-overflow-mul-result-2
+mul-result-2 : tie.Need-overflow_mul-result-2
 mul-result-2 c = (place_made c.before.before.args.frame c.before.before.requires.2 c.before.before.args.i c.before.before.requires.0).fits
 
-sub-result : tie.Need-overflow-sub-result
+sub-result : tie.Need-overflow_sub-result
 sub-result c = (difference c.before.before).fits
 
 returns : tie.Need-returns

@@ -13,7 +13,7 @@ module _ (c : tie.Start) where
   e : Made c.args.e c.args.e 1073741824
   e = arg c.requires.1 c.ranges.e
 
-mul-d : tie.Need-overflow-mul-d
+mul-d : tie.Need-overflow_mul-d
 mul-d c = (side_made c.before.before.args.frame c.before.before.requires.2).fits
 
 around-requires : tie.Need-around-requires

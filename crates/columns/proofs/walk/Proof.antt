@@ -15,10 +15,10 @@ use Rattle.columns.proofs.walk.Tie as tie
 w : (s : tie.Start) → Made s.args.w s.args.w 1073741824
 w s = arg s.requires.2 s.ranges.w
 
-first-column-requires : tie.Need-first-column-requires
+first-column-requires : tie.Need-first_column-lo-requires
 first-column-requires c κs = search rules
 
-end-column-requires : tie.Need-end-column-requires
+end-column-requires : tie.Need-end_column-hi-requires
 end-column-requires c κs = search rules
 
 -- the stretch that is returned has the ends that were found
@@ -29,9 +29,9 @@ returns : tie.Need-returns
 returns c =
     let s = c.before.before in
     let a = s.args in
-    let l = rw (back (w s)) at c.before.first-column.ensures in
-    let h = rw (back (w s)) at c.end-column.ensures in (
-      λ i. ends_are (omega arith) (omega arith) i ∙ walked_is (test_at a.deep a.frame a.v a.w) (sides a.frame s.requires.1 a.v s.requires.0 a.w a.deep) a.c.lo a.c.hi c.before.first-column.result c.end-column.result
+    let l = rw (back (w s)) at c.before.first_column-lo.ensures in
+    let h = rw (back (w s)) at c.end_column-hi.ensures in (
+      λ i. ends_are (omega arith) (omega arith) i ∙ walked_is (test_at a.deep a.frame a.v a.w) (sides a.frame s.requires.1 a.v s.requires.0 a.w a.deep) a.c.lo a.c.hi c.before.first_column-lo.result c.end_column-hi.result
           (record {
             begins = l.0;
             ends = h.0;

@@ -11,14 +11,14 @@ use Rattle.drawing.proofs.Maps.{job_numbers, columns_few, log_back}
 use Rattle.drawing.proofs.columns_of.Statement.{statement}
 use Rattle.drawing.proofs.columns_of.Tie as tie
 
-exponent-requires : tie.Need-exponent-requires
+exponent-requires : tie.Need-exponent-n-requires
 exponent-requires c κs =
     let j = c.before.args.job in
     let s = job_numbers j c.before.requires in
     let g : mag j.n < 2 ^ 31 = search rules in
     rw (read32 j.n g) (s.plate.nonneg, s.plate.most)
 
-exponent-requires-2 : tie.Need-exponent-requires-2
+exponent-requires-2 : tie.Need-exponent-m-requires
 exponent-requires-2 c κs =
     let j = c.before.before.before.args.job in
     let s = job_numbers j c.before.before.before.requires in
@@ -26,26 +26,26 @@ exponent-requires-2 c κs =
     rw (read32 j.m g) (s.cell.nonneg, s.cell.most)
 
 -- both exponents
-module _ (c : tie.After-exponent2) where
+module _ (c : tie.After-exponent-m) where
   abbrev start : tie.Start
   start = c.before.before.before.before
 
-  n_is : c.before.before.exponent.result ≡ plate_log start.args.job
-  n_is = let g : mag start.args.job.n < 2 ^ 31 = search rules in log_back c.before.before.exponent.result start.args.job.n c.before.before.exponent.ensures g
+  n_is : c.before.before.exponent-n.result ≡ plate_log start.args.job
+  n_is = let g : mag start.args.job.n < 2 ^ 31 = search rules in log_back c.before.before.exponent-n.result start.args.job.n c.before.before.exponent-n.ensures g
 
-  m_is : c.exponent2.result ≡ cell_log start.args.job
-  m_is = let g : mag start.args.job.m < 2 ^ 31 = search rules in log_back c.exponent2.result start.args.job.m c.exponent2.ensures g
+  m_is : c.exponent-m.result ≡ cell_log start.args.job
+  m_is = let g : mag start.args.job.m < 2 ^ 31 = search rules in log_back c.exponent-m.result start.args.job.m c.exponent-m.ensures g
 
-sub-power-of-two : tie.Need-overflow-sub-power-of-two
+sub-power-of-two : tie.Need-overflow_sub-n
 sub-power-of-two c = omega (arith, n_is c, m_is c, (job_numbers (start c).args.job (start c).requires).cell_size)
 
-power-of-two-requires : tie.Need-power-of-two-requires
+power-of-two-requires : tie.Need-power_of_two-requires
 power-of-two-requires c κs = omega (arith, n_is c, m_is c, (job_numbers (start c).args.job (start c).requires).few)
 
 returns : tie.Need-returns
 returns c =
     let b = c.before in
-    let e : c.power-of-two.result ≡ columns (start b).args.job = c.power-of-two.ensures ∙ ap₂ (λ n m. 2 ^ (n - m)) (n_is b) (m_is b) in
+    let e : c.power_of_two.result ≡ columns (start b).args.job = c.power_of_two.ensures ∙ ap₂ (λ n m. 2 ^ (n - m)) (n_is b) (m_is b) in
     (e, omega (arith, e, columns_few (start b).args.job (start b).requires))
 
 pub columns_of_spec : {M : Type 1} → statement M

@@ -20,23 +20,23 @@ use Rattle.drawing.proofs.Maps.{held, count_most, whole_ready, inherits, map_is}
 use Rattle.drawing.proofs.draw_by.Statement.{statement}
 use Rattle.drawing.proofs.draw_by.Tie as tie
 
-no-starts-requires : tie.Need-no-starts-requires
+no-starts-requires : tie.Need-no_starts-list-requires
 no-starts-requires c κs = search rules
 
-list-starts-requires : tie.Need-list-starts-requires
+list-starts-requires : tie.Need-list_starts-requires
 list-starts-requires c κs =
     let s = c.before.before.before in
     let a = s.args in (
       count_most a.job a.cells.now a.store.now s.requires,
       record { trees = forest a.job; holds = held a.job a.cells.now a.store.now s.requires },
-      c.before.no-starts.ensures,
+      c.before.no_starts-list.ensures,
     )
 
-frame-of-requires : tie.Need-frame-of-requires
+frame-of-requires : tie.Need-frame_of-frame-requires
 frame-of-requires c κs = search rules
 
 -- the frame, and where the trees start
-module _ (c : tie.After-frame-of) where
+module _ (c : tie.After-frame_of-frame) where
   abbrev start : tie.Start
   start = c.before.before.before.before.before
 
@@ -44,51 +44,51 @@ module _ (c : tie.After-frame-of) where
   job = start.args.job
 
   abbrev list : List ℕ
-  list = c.before.list-starts.new.1.1.0
+  list = c.before.list_starts.new.list
 
   starts : Starts start.args.store.now (take job.count list) (forest job)
-  starts = c.before.list-starts.ensures.1 (forest job) (held job start.args.cells.now start.args.store.now start.pre)
+  starts = c.before.list_starts.ensures.1 (forest job) (held job start.args.cells.now start.args.store.now start.requires)
 
-  each : EachInherits (way_of c.frame-of.result) (forest job)
-  each = subst (λ (f : Frame). EachInherits (way_of f) (forest job)) (sym c.frame-of.ensures) (inherits job start.pre.accepted)
+  each : EachInherits (way_of c.frame_of-frame.result) (forest job)
+  each = subst (λ (f : Frame). EachInherits (way_of f) (forest job)) (sym c.frame_of-frame.ensures) (inherits job start.requires.accepted)
 
-  ready : Ready start.args.store.now list job.count c.frame-of.result 0 0 c.frame-of.result.n × ((0 + c.frame-of.result.n) * c.frame-of.result.n ≤ length start.args.cells.now)
+  ready : Ready start.args.store.now list job.count c.frame_of-frame.result 0 0 c.frame_of-frame.result.n × ((0 + c.frame_of-frame.result.n) * c.frame_of-frame.result.n ≤ length start.args.cells.now)
   ready =
-      subst (λ (f : Frame). Ready start.args.store.now list job.count f 0 0 f.n × ((0 + f.n) * f.n ≤ length start.args.cells.now)) (sym c.frame-of.ensures)
-      (whole_ready job start.args.cells.now start.args.store.now start.pre list c.before.list-starts.ensures.0 starts, omega (arith, start.pre.room))
+      subst (λ (f : Frame). Ready start.args.store.now list job.count f 0 0 f.n × ((0 + f.n) * f.n ≤ length start.args.cells.now)) (sym c.frame_of-frame.ensures)
+      (whole_ready job start.args.cells.now start.args.store.now start.requires list c.before.list_starts.ensures.0 starts, omega (arith, start.requires.room))
 
   -- the letters drawn are the map's
-  finished : (new : List ℕ) → length new ≡ length start.args.cells.now → Drawn c.frame-of.result.n new start.args.cells.now (over (own_letter c.frame-of.result (forest job)) 0 0 c.frame-of.result.n) → new ≡ written (map_of job) start.args.cells.now
+  finished : (new : List ℕ) → length new ≡ length start.args.cells.now → Drawn c.frame_of-frame.result.n new start.args.cells.now (over (own_letter c.frame_of-frame.result (forest job)) 0 0 c.frame_of-frame.result.n) → new ≡ written (map_of job) start.args.cells.now
   finished new e d =
-      map_is job start.pre.accepted new start.args.cells.now e start.pre.room
-      (subst (λ (f : Frame). Drawn f.n new start.args.cells.now (over (own_letter f (forest job)) 0 0 f.n)) c.frame-of.ensures d)
+      map_is job start.requires.accepted new start.args.cells.now e start.requires.room
+      (subst (λ (f : Frame). Drawn f.n new start.args.cells.now (over (own_letter f (forest job)) 0 0 f.n)) c.frame_of-frame.ensures d)
 
-draw-by-rows-requires : tie.Need-draw-by-rows-requires
+draw-by-rows-requires : tie.Need-draw_by_rows-requires
 draw-by-rows-requires c κs =
     let e = c.before.before.before in
     let r = ready e in
-    (record { list-long = r.0.list_long; count_most = r.0.count_most; trees = forest (job e); starts = starts e; shallow = forest_shallow (job e) }, (r.0.frame_sized, omega (arith, r.1)))
+    (record { list_long = r.0.list_long; count_most = r.0.count_most; trees = forest (job e); starts = starts e; shallow = forest_shallow (job e) }, (r.0.frame_sized, omega (arith, r.1)))
 
-same_length : tie.Need-same-length
+same_length : tie.Need-shape_of-cells-then-by_rows
 same_length c = search rules
 
-returns : tie.Need-returns
+returns : tie.Need-returns-then-by_rows
 returns c =
     let e = c.before.before.before.before.before.before in
-    let d = c.before.before.draw-by-rows in
-    finished e d.new.0 d.auto.0 (d.ensures (forest (job e)) (starts e) (forest_shallow (job e)))
+    let d = c.before.before.draw_by_rows in
+    finished e d.new.map d.auto.map (d.ensures (forest (job e)) (starts e) (forest_shallow (job e)))
 
 draw-requires : tie.Need-draw-requires
 draw-requires c κs = ready c.before.before.before
 
-same-length-2 : tie.Need-same-length-2
+same-length-2 : tie.Need-shape_of-cells
 same-length-2 c = search rules
 
-returns-2 : tie.Need-returns-2
+returns-2 : tie.Need-returns
 returns-2 c =
     let e = c.before.before.before.before.before.before in
     let d = c.before.before.draw in
-    finished e d.new.0 d.auto.0 (d.ensures (forest (job e)) (starts e) (each e))
+    finished e d.new.map d.auto.map (d.ensures (forest (job e)) (starts e) (each e))
 
 pub draw_by_spec : {M : Type 1} → statement M
 draw_by_spec =

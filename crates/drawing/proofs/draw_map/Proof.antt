@@ -7,16 +7,16 @@ use Rattle.drawing.proofs.Maps.{frame_sized}
 use Rattle.drawing.proofs.draw_map.Statement.{statement}
 use Rattle.drawing.proofs.draw_map.Tie as tie
 
-frame-of-requires : tie.Need-frame-of-requires
+frame-of-requires : tie.Need-frame_of-requires
 frame-of-requires c κs = (c.before.requires.accepted, zero-le)
 
-is-by-rows-requires : tie.Need-is-by-rows-requires
-is-by-rows-requires c κs = let s = c.before.before in subst FrameSized (sym c.frame-of.ensures) (frame_sized s.args.job s.requires.accepted 0 zero-le)
+is-by-rows-requires : tie.Need-is_by_rows-by_rows-requires
+is-by-rows-requires c κs = let s = c.before.before in subst FrameSized (sym c.frame_of.ensures) (frame_sized s.args.job s.requires.accepted 0 zero-le)
 
-draw-by-requires : tie.Need-draw-by-requires
+draw-by-requires : tie.Need-draw_by-requires
 draw-by-requires c κs = search rules
 
-same_length : tie.Need-same-length
+same_length : tie.Need-shape_of-cells
 same_length c = search rules
 
 returns : tie.Need-returns

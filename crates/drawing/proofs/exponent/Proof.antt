@@ -4,7 +4,7 @@ use borrow.Author.Rules.{rules}
 use Rattle.drawing.proofs.exponent.Statement.{statement}
 use Rattle.drawing.proofs.exponent.Tie as tie
 
-cast-result : tie.Need-overflow-cast-result
+cast-result : tie.Need-overflow_cast-result
 cast-result c = let f = c.ranges.z in rw (to_z-of_z f) (c.requires.0, Fits-nat_abs tt f)
 
 returns : tie.Need-returns

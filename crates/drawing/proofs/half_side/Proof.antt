@@ -12,11 +12,11 @@ use Rattle.drawing.proofs.half_side.Tie as tie
 product : (c : tie.Start) → Made (to_z w64 c.args.w *ℤ to_z w64 (of_z w64 c.args.q)) (pos c.args.w *ℤ c.args.q) 8388608
 product c = scaled c.args.w c.args.q 8388608 (omega (arith, c.requires.1)) c.ranges.q c.requires.2 tt
 
-cast-result : tie.Need-overflow-cast-result
+cast-result : tie.Need-overflow_cast-result
 cast-result c = search rules
 
-mul-result : tie.Need-overflow-mul-result
-mul-result c = (product c).ranges
+mul-result : tie.Need-overflow_mul-result
+mul-result c = (product c).fits
 
 returns : tie.Need-returns
 returns c = back (product c)

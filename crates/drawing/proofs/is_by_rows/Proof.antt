@@ -15,16 +15,16 @@ reach c = times (lit 24 tt) (reach_made c.args.frame c.requires) tt
 plate : (c : tie.Start) → Made (bits (to_z w64 2 *ℤ bits c.args.frame.q) *ℤ to_z w64 c.args.frame.n) (pos 2 *ℤ c.args.frame.q *ℤ pos c.args.frame.n) 16777216
 plate c = place_made c.args.frame c.requires c.args.frame.n (omega arith)
 
-mul-result : tie.Need-overflow-mul-result
+mul-result : tie.Need-overflow_mul-result
 mul-result c = (reach c.before.before).fits
 
-mul-result-2 : tie.Need-overflow-mul-result-2
+mul-result-2 : tie.Need-overflow_mul-result-2
 mul-result-2 c = let s = c.before.before.before.before in (side_made s.args.frame s.requires).fits
 
-cast-result : tie.Need-overflow-cast-result
+cast-result : tie.Need-overflow_cast-result
 cast-result c = search rules
 
-mul-result-3 : tie.Need-overflow-mul-result-3
+mul-result-3 : tie.Need-overflow_mul-result-3
 mul-result-3 c = (plate c.before.before.before.before.before).fits
 
 returns : tie.Need-returns

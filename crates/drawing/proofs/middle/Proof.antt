@@ -16,19 +16,19 @@ product c = scaled (2 * c.args.c + c.args.w) c.args.q 16777216 (omega (arith, c.
 x : (c : tie.Start) → Made c.args.x c.args.x 33554432
 x c = arg c.requires.0 c.ranges.x
 
-mul-result : tie.Need-overflow-mul-result
+mul-result : tie.Need-overflow_mul-result
 mul-result c = search rules
 
-add-result : tie.Need-overflow-add-result
+add-result : tie.Need-overflow_add-result
 add-result c = search rules
 
-cast-result : tie.Need-overflow-cast-result
+cast-result : tie.Need-overflow_cast-result
 cast-result c = search rules
 
-mul-result-2 : tie.Need-overflow-mul-result-2
-mul-result-2 c = (product c).ranges
+mul-result-2 : tie.Need-overflow_mul-result-2
+mul-result-2 c = (product c).fits
 
-add-result-2 : tie.Need-overflow-add-result-2
+add-result-2 : tie.Need-overflow_add-result-2
 add-result-2 c = (plus (x c) (product c) tt).fits
 
 returns : tie.Need-returns

@@ -8,32 +8,32 @@ use lib.Pow.{pow_mono}
 use Rattle.drawing.proofs.power_of_two.Statement.{statement}
 use Rattle.drawing.proofs.power_of_two.Tie as tie
 
-abbrev invariant-loop : tie.invariant-loop
+abbrev invariant-loop : tie.invariant-loop-i
 invariant-loop k v₀ i₀ v i = (i ≤ k) × (v ≡ 2 ^ i)
 
-abbrev decreases-loop : tie.decreases-loop
+abbrev decreases-loop : tie.decreases-loop-i
 decreases-loop k v₀ i₀ v i = k - i
 
-small : (c : tie.At-loop invariant-loop decreases-loop) → c.loop.v ≤ 2 ^ 20
-small c = let i : c.loop.i ≤ 20 = omega (arith, c.before.requires, c.loop.invariant.0) in omega (arith, pow_mono i, c.loop.invariant.1)
+small : (c : tie.At-loop-i invariant-loop decreases-loop) → c.loop-i.v ≤ 2 ^ 20
+small c = let i : c.loop-i.i ≤ 20 = omega (arith, c.before.requires, c.loop-i.invariant.0) in omega (arith, pow_mono i, c.loop-i.invariant.1)
 
-loop-holds : tie.Need-loop-init invariant-loop decreases-loop
+loop-holds : tie.Need-loop-i-init invariant-loop decreases-loop
 loop-holds c = (omega arith, refl)
 
-mul-v : tie.Need-overflow-mul-v invariant-loop decreases-loop
+mul-v : tie.Need-overflow_mul-v invariant-loop decreases-loop
 mul-v c = omega (arith, small c.before)
 
-add-i : tie.Need-overflow-add-i invariant-loop decreases-loop
+add-i : tie.Need-overflow_add-i invariant-loop decreases-loop
 add-i c = omega arith
 
-loop-less : tie.Need-loop-smaller invariant-loop decreases-loop
+loop-less : tie.Need-loop-i-smaller invariant-loop decreases-loop
 loop-less c = omega arith
 
-loop-again : tie.Need-loop-preserved invariant-loop decreases-loop
-loop-again c = let l = c.before.loop in (omega arith, rw (add-one, pow-suc) (ap (λ n. n * 2) l.invariant.1))
+loop-again : tie.Need-loop-i-preserved invariant-loop decreases-loop
+loop-again c = let l = c.before.loop-i in (omega arith, rw (add-one, pow-suc) (ap (λ n. n * 2) l.invariant.1))
 
 returns : tie.Need-returns invariant-loop decreases-loop
-returns c = let l = c.before.loop in l.invariant.1 ∙ ap (λ n. 2 ^ n) (omega arith)
+returns c = let l = c.before.loop-i in l.invariant.1 ∙ ap (λ n. 2 ^ n) (omega arith)
 
 pub power_of_two_spec : {M : Type 1} → statement M
 power_of_two_spec =

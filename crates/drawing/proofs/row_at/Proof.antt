@@ -17,16 +17,16 @@ product c = scaled (2 * c.args.row) c.args.q 16777216 (omega (arith, c.requires.
 y : (c : tie.Start) → Made c.args.y c.args.y 16777216
 y c = arg c.requires.0 c.ranges.y
 
-mul-result : tie.Need-overflow-mul-result
+mul-result : tie.Need-overflow_mul-result
 mul-result c = search rules
 
-cast-result : tie.Need-overflow-cast-result
+cast-result : tie.Need-overflow_cast-result
 cast-result c = search rules
 
-mul-result-2 : tie.Need-overflow-mul-result-2
-mul-result-2 c = (product c).ranges
+mul-result-2 : tie.Need-overflow_mul-result-2
+mul-result-2 c = (product c).fits
 
-add-result : tie.Need-overflow-add-result
+add-result : tie.Need-overflow_add-result
 add-result c = (plus (y c) (product c) tt).fits
 
 returns : tie.Need-returns

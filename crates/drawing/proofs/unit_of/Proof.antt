@@ -13,39 +13,39 @@ use Rattle.drawing.proofs.Maps.{job_numbers, unit_size, log_back}
 use Rattle.drawing.proofs.unit_of.Statement.{statement}
 use Rattle.drawing.proofs.unit_of.Tie as tie
 
-exponent-requires : tie.Need-exponent-requires
+exponent-requires : tie.Need-exponent-m-requires
 exponent-requires c κs =
     let j = c.before.args.job in
     let s = job_numbers j c.before.requires in
     let g : mag j.m < 2 ^ 31 = search rules in
     rw (read32 j.m g) (s.cell.nonneg, s.cell.most)
 
-m_is : (c : tie.After-exponent) → c.exponent.result ≡ cell_log c.before.before.args.job
+m_is : (c : tie.After-exponent-m) → c.exponent-m.result ≡ cell_log c.before.before.args.job
 m_is c =
     let j = c.before.before.args.job in
     let g : mag j.m < 2 ^ 31 = search rules in
-    log_back c.exponent.result j.m c.exponent.ensures g
+    log_back c.exponent-m.result j.m c.exponent-m.ensures g
 
-power-of-two-requires : tie.Need-power-of-two-requires
+power-of-two-requires : tie.Need-power_of_two-unit-requires
 power-of-two-requires c κs =
     let s = job_numbers c.before.before.args.job c.before.before.requires in
     omega (arith, m_is c, s.cell.most)
 
-power_is : (c : tie.After-power-of-two) → c.power-of-two.result ≡ 2 ^ cell_log c.before.before.before.args.job
-power_is c = c.power-of-two.ensures ∙ ap (λ k. 2 ^ k) (m_is c.before)
+power_is : (c : tie.After-power_of_two-unit) → c.power_of_two-unit.result ≡ 2 ^ cell_log c.before.before.before.args.job
+power_is c = c.power_of_two-unit.ensures ∙ ap (λ k. 2 ^ k) (m_is c.before)
 
-small : (c : tie.After-power-of-two) → 8 * c.power-of-two.result ≤ 8388608
+small : (c : tie.After-power_of_two-unit) → 8 * c.power_of_two-unit.result ≤ 8388608
 small c = omega (arith, power_is c, unit_size c.before.before.before.args.job c.before.before.before.requires)
 
-mul-unit : tie.Need-overflow-mul-unit
+mul-unit : tie.Need-overflow_mul-unit
 mul-unit c = omega (arith, small c)
 
-cast-result : tie.Need-overflow-cast-result
+cast-result : tie.Need-overflow_cast-result
 cast-result c = fits64 (small c) tt
 
 returns : tie.Need-returns
 returns c =
-    let b : 8 * c.power-of-two.result < 2 ^ 63 = omega (arith, small c) in
+    let b : 8 * c.power_of_two-unit.result < 2 ^ 63 = omega (arith, small c) in
     to_z_pos w64 b ∙ ap (λ n. pos (8 * n)) (power_is c)
 
 pub unit_of_spec : {M : Type 1} → statement M

@@ -9,13 +9,13 @@ use Rattle.lengths.proofs.better.Tie as tie
 quotient : (c : tie.Start) → c.args.v / c.args.x ≤ 1152921504606846976
 quotient c = omega (arith, div-le_self c.args.v c.args.x, c.requires.2)
 
-div-result : tie.Need-nonzero-div-result
+div-result : tie.Need-nonzero_div-result
 div-result c = search rules
 
-add-result : tie.Need-overflow-add-result
+add-result : tie.Need-overflow_add-result
 add-result c = omega (arith, quotient c)
 
-add-result-2 : tie.Need-overflow-add-result-2
+add-result-2 : tie.Need-overflow_add-result-2
 add-result-2 c = omega (arith, quotient c)
 
 returns : tie.Need-returns

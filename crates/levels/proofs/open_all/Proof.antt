@@ -16,10 +16,10 @@ use Rattle.levels.proofs.open_all.Tie as tie
 abbrev Opened : ℕ → List ℕ → List ℕ → ℕ → Type 0
 Opened n los his j = (y : ℕ) → y < j → span_in los his 0 y ≡ record { lo = 0; hi = n }
 
-abbrev invariant-loop : tie.invariant-loop
+abbrev invariant-loop : tie.invariant-loop-j
 invariant-loop los₀ his₀ n rows j₀ los his j = (j ≤ rows) × Levels n los his × Opened n los his j
 
-abbrev decreases-loop : tie.decreases-loop
+abbrev decreases-loop : tie.decreases-loop-j
 decreases-loop los₀ his₀ n rows j₀ los his j = rows - j
 
 -- every column is kept as such
@@ -47,35 +47,35 @@ module _ (los his los' his' : List ℕ) (n j : ℕ) (new : span_in los' his' 0 j
           let o = others (place_of 0 y) (λ z. f (omega (arith, z))) in
           rw (o.0, o.1) (old y (omega (arith, h, f)))
 
-loop-holds : tie.Need-loop-init invariant-loop decreases-loop
+loop-holds : tie.Need-loop-j-init invariant-loop decreases-loop
 loop-holds c = (omega arith, c.requires.2, λ y h. absurd (omega (arith, h)))
 
 put-requires : tie.Need-put-requires invariant-loop decreases-loop
 put-requires c κs =
-    let l = c.before.before.before.loop in
+    let l = c.before.before.before.loop-j in
     let h = l.invariant.1 in
     (omega arith, omega arith, omega arith, h.los_long, h.his_long, h.los_small, h.his_small)
 
-add-j : tie.Need-overflow-add-j invariant-loop decreases-loop
+add-j : tie.Need-overflow_add-j invariant-loop decreases-loop
 add-j c = omega arith
 
-loop-less : tie.Need-loop-smaller invariant-loop decreases-loop
+loop-less : tie.Need-loop-j-smaller invariant-loop decreases-loop
 loop-less c = omega arith
 
-loop-again : tie.Need-loop-preserved invariant-loop decreases-loop
+loop-again : tie.Need-loop-j-preserved invariant-loop decreases-loop
 loop-again c =
     let p = c.put.ensures in
-    let l = c.before.before.before.before.loop in
+    let l = c.before.before.before.before.loop-j in
     let n = c.before.before.before.before.before.args.n in
     let e = p.1.0 ∙ normal_all n in (
       omega arith,
-      record { los-long = p.0.0; his-long = p.0.1; los-small = p.0.2; his-small = p.0.3; fits = fits l.los l.his c.put.new.0 c.put.new.1.0 n l.j e p.1.1 l.invariant.1.fits },
-      opened l.los l.his c.put.new.0 c.put.new.1.0 n l.j e p.1.1 l.invariant.2,
+      record { los_long = p.0.0; his_long = p.0.1; los_small = p.0.2; his_small = p.0.3; fits = fits l.los l.his c.put.new.los c.put.new.his n l.j e p.1.1 l.invariant.1.fits },
+      opened l.los l.his c.put.new.los c.put.new.his n l.j e p.1.1 l.invariant.2,
     )
 
 returns : tie.Need-returns invariant-loop decreases-loop
 returns c =
-    let i = c.before.loop.invariant in
+    let i = c.before.loop-j.invariant in
     (i.1, λ y h. i.2 y (omega arith))
 
 pub open_all_spec : {M : Type 1} → statement M

@@ -3,10 +3,10 @@ use native.Mathlib.Omega.{arith}
 use Rattle.levels.proofs.place.Statement.{statement}
 use Rattle.levels.proofs.place.Tie as tie
 
-mul-result : tie.Need-overflow-mul-result
+mul-result : tie.Need-overflow_mul-result
 mul-result c = omega arith
 
-add-result : tie.Need-overflow-add-result
+add-result : tie.Need-overflow_add-result
 add-result c = omega arith
 
 returns : tie.Need-returns

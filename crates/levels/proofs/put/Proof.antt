@@ -23,54 +23,54 @@ still_small l i x h k s n = go (eqb n i) refl
     go false e = omega (arith, get_or-set_other l i n x 0 (eqb-false n i e), s n)
 
 -- what is kept
-module _ (c : tie.After-normal) where
+module _ (c : tie.After-normal-s) where
   abbrev start : tie.Start
   start = c.before.before
 
-  small : (c.normal.result.lo ≤ 256) × (c.normal.result.hi ≤ 256)
+  small : (c.normal-s.result.lo ≤ 256) × (c.normal-s.result.hi ≤ 256)
   small =
-      let e = c.normal.ensures in
-      let m = normal_most start.args.c 256 start.pre.2 in
+      let e = c.normal-s.ensures in
+      let m = normal_most start.args.c 256 start.requires.2 in
       (omega (arith, ap (λ (s : Span). s.lo) e, m.0), omega (arith, ap (λ (s : Span). s.hi) e, m.1))
 
-place-requires : tie.Need-place-requires
+place-requires : tie.Need-place-i-requires
 place-requires c κs = search rules
 
-normal-requires : tie.Need-normal-requires
+normal-requires : tie.Need-normal-s-requires
 normal-requires c κs = search rules
 
-cast-lo : tie.Need-overflow-cast-lo
+cast-lo : tie.Need-overflow_cast-lo
 cast-lo c = omega (arith, (small c.before).0)
 
-cast-hi : tie.Need-overflow-cast-hi
+cast-hi : tie.Need-overflow_cast-hi
 cast-hi c = omega (arith, (small c.before.before).1)
 
-mul-los : tie.Need-overflow-mul-los
+mul-los : tie.Need-offset_bounds-los-i
 mul-los c = search rules
 
-element-write-los : tie.Need-element-write-los
+element-write-los : tie.Need-bounds-los-i
 element-write-los c = search rules
 
-mul-his : tie.Need-overflow-mul-his
+mul-his : tie.Need-offset_bounds-his-i
 mul-his c = search rules
 
-element-write-his : tie.Need-element-write-his
+element-write-his : tie.Need-bounds-his-i
 element-write-his c = search rules
 
 returns : tie.Need-returns
 returns c =
-    let n = c.before.before in
+    let n = c.before.before.before.before in
     let s = start n in
     let a = s.args in
-    let lo = n.normal.result.lo in
-    let hi = n.normal.result.hi in
+    let lo = n.normal-s.result.lo in
+    let hi = n.normal-s.result.hi in
     let i = place_of a.d a.j in
-    let j : i < length a.los.now = omega (arith, s.pre.0, s.pre.1, s.pre.3) in
-    let k : i < length a.his.now = omega (arith, s.pre.0, s.pre.1, s.pre.4) in
-    rw n.before.place.ensures (
-      (length-set a.los.now i lo ∙ s.pre.3, length-set a.his.now i hi ∙ s.pre.4, still_small a.los.now i lo j (small n).0 s.pre.5, still_small a.his.now i hi k (small n).1 s.pre.6),
+    let j : i < length a.los.now = omega (arith, s.requires.0, s.requires.1, s.requires.3) in
+    let k : i < length a.his.now = omega (arith, s.requires.0, s.requires.1, s.requires.4) in
+    rw n.before.place-i.ensures (
+      (length-set a.los.now i lo ∙ s.requires.3, length-set a.his.now i hi ∙ s.requires.4, still_small a.los.now i lo j (small n).0 s.requires.5, still_small a.his.now i hi k (small n).1 s.requires.6),
       (
-        ap₂ (λ (x y : ℕ). record { lo = x; hi = y }) (get_or-set_same a.los.now i lo 0 j) (get_or-set_same a.his.now i hi 0 k) ∙ n.normal.ensures,
+        ap₂ (λ (x y : ℕ). record { lo = x; hi = y }) (get_or-set_same a.los.now i lo 0 j) (get_or-set_same a.his.now i hi 0 k) ∙ n.normal-s.ensures,
         λ m h. (get_or-set_other a.los.now i m lo 0 h, get_or-set_other a.his.now i m hi 0 h),
       ),
     )

@@ -5,41 +5,41 @@ use borrow.Author.Rules.{rules}
 use Rattle.mapping.proofs.map.Statement.{statement}
 use Rattle.mapping.proofs.map.Tie as tie
 
-go-through-requires : tie.Need-go-through-requires
+go-through-requires : tie.Need-go_through-checked-requires
 go-through-requires c κs = search rules
 
-returns : tie.Need-returns
+returns : tie.Need-returns-then-refusal-ne0
 returns c =
     let s = c.before.before.before in
-    let k = c.before.go-through in
+    let k = c.before.go_through-checked in
     let e = k.ensures.0.given s.args.store.now s.args.cells.now refl refl in (
-      refused_answer s.args.job s.args.store.now s.args.cells.now k.result.refusal e c.if1.true,
+      refused_answer s.args.job s.args.store.now s.args.cells.now k.result.refusal e c.if-refusal-ne0.true,
       (
-        refused_store s.args.job s.args.store.now s.args.cells.now k.result.refusal e c.if1.true,
-        refused_cells s.args.job s.args.store.now s.args.cells.now k.result.refusal e c.if1.true,
+        refused_store s.args.job s.args.store.now s.args.cells.now k.result.refusal e c.if-refusal-ne0.true,
+        refused_cells s.args.job s.args.store.now s.args.cells.now k.result.refusal e c.if-refusal-ne0.true,
       ),
     )
 
 draw-requires : tie.Need-draw-requires
-draw-requires c κs = c.before.before.before.go-through.ensures.1 c.before.before.if1.false
+draw-requires c κs = c.before.before.before.go_through-checked.ensures.1 c.before.before.if-refusal-ne0.false
 
-same_length : tie.Need-same-length
+same_length : tie.Need-shape_of-store
 same_length c = search rules
 
-same-length-2 : tie.Need-same-length-2
+same-length-2 : tie.Need-shape_of-cells
 same-length-2 c = search rules
 
-returns-2 : tie.Need-returns-2
+returns-2 : tie.Need-returns
 returns-2 c =
     let s = c.before.before.before.before.before.before.before.before.before in
-    let k = c.before.before.before.before.before.before.before.go-through in
-    let z = c.before.before.before.before.before.before.if1.false in
+    let k = c.before.before.before.before.before.before.before.go_through-checked in
+    let z = c.before.before.before.before.before.before.if-refusal-ne0.false in
     let d = c.before.before.before.draw in
     let e : 0 ≡ map_refusal s.args.job s.args.store.now s.args.cells.now = sym z ∙ k.ensures.0.given s.args.store.now s.args.cells.now refl refl in (
       accepted_answer s.args.job s.args.store.now s.args.cells.now e k.result.nodes (k.ensures.1 z).nodes_are,
       (
-        accepted_store s.args.job s.args.store.now s.args.cells.now e d.new.1.0 d.ensures.0,
-        accepted_cells s.args.job s.args.store.now s.args.cells.now e d.new.1.1.0 d.ensures.1,
+        accepted_store s.args.job s.args.store.now s.args.cells.now e d.new.store d.ensures.0,
+        accepted_cells s.args.job s.args.store.now s.args.cells.now e d.new.cells d.ensures.1,
       ),
     )
 

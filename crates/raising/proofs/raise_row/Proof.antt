@@ -11,45 +11,45 @@ use Rattle.raising.proofs.Parts.{part_raised, nothing}
 use Rattle.raising.proofs.raise_row.Statement.{statement}
 use Rattle.raising.proofs.raise_row.Tie as tie
 
-mul-a : tie.Need-overflow-mul-a
+mul-a : tie.Need-overflow_mul-a
 mul-a c = omega arith
 
-add_a : tie.Need-overflow-add-a
+add_a : tie.Need-overflow_add-a
 add_a c = omega arith
 
-mul-e : tie.Need-overflow-mul-e
+mul-e : tie.Need-overflow_mul-e
 mul-e c = omega arith
 
-add-e : tie.Need-overflow-add-e
+add-e : tie.Need-overflow_add-e
 add-e c = omega arith
 
-sub-raise : tie.Need-overflow-sub-raise
+sub-raise : tie.Need-slice_bounds-raise-count
 sub-raise c = omega arith
 
-part-raise-start : tie.Need-slice-bounds-raise-start
+part-raise-start : tie.Need-slice_bounds-raise-start
 part-raise-start c = omega arith
 
-part-raise-end : tie.Need-slice-bounds-raise-end
+part-raise-end : tie.Need-slice_bounds-raise-end
 part-raise-end c = omega arith
 
 raise-requires : tie.Need-raise-requires
 raise-requires c κs = search rules
 
-same_length : tie.Need-same-length
+same_length : tie.Need-shape_of-map
 same_length c = search rules
 
-returns : tie.Need-returns
+returns : tie.Need-returns-then-lo-hi
 returns c =
     let s = c.before.before.before.before.before.before in
     let a = s.args in
     let r = c.before.before.raise in
     record {
       cells = λ i y i<.
-          part_raised a.map.now r.new.0 (a.j * a.n + a.c.lo) (a.j * a.n + a.c.hi) a.b (y * a.n + i) (omega arith) (omega arith) r.auto.0 r.ensures
+          part_raised a.map.now r.new.s (a.j * a.n + a.c.lo) (a.j * a.n + a.c.hi) a.b (y * a.n + i) (omega arith) (omega arith) r.auto.s r.ensures
           ∙ ap (λ (t : Bool). raised t a.b (get_or a.map.now (y * a.n + i) 0)) (in_row a.n a.j a.c.lo a.c.hi i y i< s.requires.0);
     }
 
-returns-2 : tie.Need-returns-2
+returns-2 : tie.Need-returns-else-lo-hi
 returns-2 c =
     let a = c.before.before.args in
     record { cells = λ i y i<. nothing a.j a.c a.b i y (get_or a.map.now (y * a.n + i) 0) (omega arith) }

@@ -4,16 +4,16 @@ use Rattle.rows.proofs.Deep.{ex_made, ey_made, square_made, box_made, nowhere}
 use Rattle.rows.proofs.is_small.Statement.{statement}
 use Rattle.rows.proofs.is_small.Tie as tie
 
-mul-reach : tie.Need-overflow-mul-reach
+mul-reach : tie.Need-overflow_mul-reach
 mul-reach c = let s = c.before.before in (square_made s.args.v s.args.frame s.requires.0 s.requires.1).fits
 
-mul-side : tie.Need-overflow-mul-side
+mul-side : tie.Need-overflow_mul-side
 mul-side c = let s = c.before.before.before.before in let m = ex_made s.args.v s.args.frame s.requires.0 s.requires.1 in (times m m tt).fits
 
-mul-side-2 : tie.Need-overflow-mul-side-2
+mul-side-2 : tie.Need-overflow_mul-side-2
 mul-side-2 c = let s = c.before.before.before.before.before.before in let m = ey_made s.args.v s.args.frame s.requires.0 s.requires.1 in (times m m tt).fits
 
-add-side : tie.Need-overflow-add-side
+add-side : tie.Need-overflow_add-side
 add-side c = let s = c.before.before.before.before.before.before in (box_made s.args.v s.args.frame s.requires.0 s.requires.1).fits
 
 returns : tie.Need-returns

@@ -21,23 +21,23 @@ module _ (c : tie.Start) where
   high : Made (bits c.args.u +ℤ bits c.args.e) (c.args.u +ℤ c.args.e) 3458764513820540928
   high = plus u e tt
 
-sub-first-from : tie.Need-overflow-sub-first-from
+sub-first-from : tie.Need-overflow_sub-u
 sub-first-from c = (low c).fits
 
-first-from-requires : tie.Need-first-from-requires
+first-from-requires : tie.Need-first_from-lo-requires
 first-from-requires c κs = rw (back (low c)) (resized (c.args.u -ℤ c.args.e) (omega (arith, (low c).within)) c.requires.2)
 
-add-first-above : tie.Need-overflow-add-first-above
+add-first-above : tie.Need-overflow_add-u
 add-first-above c = (high c.before).fits
 
-first-above-requires : tie.Need-first-above-requires
+first-above-requires : tie.Need-first_above-hi-requires
 first-above-requires c κs = let s = c.before in rw (back (high s)) (resized (s.args.u +ℤ s.args.e) (omega (arith, (high s).within)) s.requires.2)
 
 returns : tie.Need-returns
 returns c = λ i.
     let s = c.before.before in
-    let l = rw (back (low s)) at c.before.first-from.ensures in
-    let h = rw (back (high s)) at c.first_above.ensures in
+    let l = rw (back (low s)) at c.before.first_from-lo.ensures in
+    let h = rw (back (high s)) at c.first_above-hi.ensures in
     ap₂ (λ p q. p && q) (l i) (h i) ∙ near_law (s.args.step.d *ℤ pos i) s.args.u s.args.e
 
 pub around_spec : {M : Type 1} → statement M

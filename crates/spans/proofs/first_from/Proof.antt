@@ -22,24 +22,24 @@ module _ (c : tie.Start) where
   less : Made (bits c.args.v -ℤ pos 1) (c.args.v -ℤ pos 1) 4611686018427387905
   less = minus v (lit 1 tt) tt
 
-below : (c : tie.Then1) → c.before.args.v ≼ pos 0
+below : (c : tie.Then-v-le0) → c.before.args.v ≼ pos 0
 below c =
-    let t = rw (back (v c.before)) at c.if1.true in
+    let t = rw (back (v c.before)) at c.if-v-le0.true in
     ⊎_elim (λ m. rw m.1 (le_z_yes tt)) (λ m. let e = rw m.1 at t in rw m.1 (pos_≼ (omega (arith, ltb-true, leb-true, e)))) (sign c.before.args.v)
 
-above : (c : tie.Else1) → (n : ℕ) × (c.before.args.v ≡ pos n) × (0 < n)
+above : (c : tie.Else-v-le0) → (n : ℕ) × (c.before.args.v ≡ pos n) × (0 < n)
 above c =
-    let t = rw (back (v c.before)) at c.if1.false in
+    let t = rw (back (v c.before)) at c.if-v-le0.false in
     ⊎_elim (λ m. let e = rw m.1 at t in absurd (subst T e tt)) (λ m. let e = rw m.1 at t in (m.0, m.1, omega (arith, ltb-false, leb-false, e))) (sign c.before.args.v)
 
-returns : tie.Need-returns
+returns : tie.Need-returns-then-v-le0
 returns c = λ i. all_from c.before.args.v c.before.args.step.d i c.before.requires.d_nonneg (below c)
 
-sub-less : tie.Need-overflow-sub-less
+sub-less : tie.Need-overflow_sub-less
 sub-less c = (less c.before).fits
 
 -- v would do as well, so that a call with it is refused for what it finds and not for its size
-first-past-requires : tie.Need-first-past-requires
+first-past-requires : tie.Need-first_past-requires
 first-past-requires c κs =
     let s = c.before in
     let n = above c in
@@ -48,7 +48,7 @@ first-past-requires c κs =
     let other = sized (v s) (rw n.1 tt) s.requires in
     search rules
 
-returns-2 : tie.Need-returns-2
+returns-2 : tie.Need-returns
 returns-2 c = λ i.
     let s = c.before.before in
     let x = s.args.step.d *ℤ pos i in

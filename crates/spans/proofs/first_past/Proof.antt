@@ -23,7 +23,7 @@ module _ (c : tie.Start) where
 over-requires : tie.Need-over-requires
 over-requires c κs = sized (v c) c.requires.0 c.requires.1
 
-add-result : tie.Need-overflow-add-result
+add-result : tie.Need-overflow_add-result
 add-result c =
     let s = c.before in
     let e = rw (back (v s)) at c.over.ensures in

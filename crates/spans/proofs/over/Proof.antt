@@ -18,22 +18,22 @@ module _ (c : tie.Start) where
   q : Made (quot_z (bits c.args.v) (bits c.args.step.d)) (pos (nat_abs c.args.v / nat_abs c.args.step.d)) 4611686018427387904
   q = over v d tt
 
-cast-n : tie.Need-overflow-cast-n
+cast-n : tie.Need-overflow_cast-n
 cast-n c = let s = c.before.before in rw (back (v s)) (tt, omega (arith, (v s).within))
 
-shr-result : tie.Need-overflow-shr-result
+shr-result : tie.Need-overflow_shr-result
 shr-result c = search rules
 
-returns : tie.Need-returns
-returns c = let s = c.before.before.before in rw (back (v s), s.requires.1.power c.before.if1.true)
+returns : tie.Need-returns-then-step-lt64
+returns c = let s = c.before.before.before in rw (back (v s), s.requires.1.power c.before.if-step-lt64.true)
 
-div-q : tie.Need-nonzero-div-q
-div-q c = let s = c.before.before.before.before in (above_zero (d s) s.requires.1.d_above, (q s).ranges)
+div-q : tie.Need-nonzero_div-q
+div-q c = let s = c.before.before.before.before in (above_zero (d s) s.requires.1.d_above, (q s).fits)
 
-cast-result : tie.Need-overflow-cast-result
+cast-result : tie.Need-overflow_cast-result
 cast-result c = let s = c.before.before.before.before in rw (back (q s)) (tt, omega (arith, (q s).within))
 
-returns-2 : tie.Need-returns-2
+returns-2 : tie.Need-returns
 returns-2 c = let s = c.before.before.before.before in rw (back (q s))
 
 pub over_spec : {M : Type 1} → statement M

@@ -42,45 +42,45 @@ second_fails false b e = sym e
 first_holds : (a b t : Bool) → a ≡ false → t ≡ b → t ≡ (not a && b)
 first_holds a b t e f = rw (e, f)
 
-known : (c : tie.Else1) → Asked c.before.args.cross (nat_abs c.before.args.r) (nat_abs c.before.args.pp)
+known : (c : tie.Else-cross-r) → Asked c.before.args.cross (nat_abs c.before.args.r) (nat_abs c.before.args.pp)
 known c =
     let s = c.before in
-    asked s.args.cross (nat_abs s.args.r) (nat_abs s.args.pp) (nat_abs s.args.low) s.requires.cross_reach.r_above (omega (arith, s.requires.pp_size)) (test_lt (cross s) (times (r s) (low s) tt) c.if1.false)
+    asked s.args.cross (nat_abs s.args.r) (nat_abs s.args.pp) (nat_abs s.args.low) s.requires.cross_reach.r_above (omega (arith, s.requires.pp_size)) (test_lt (cross s) (times (r s) (low s) tt) c.if-cross-r.false)
 
-k : (c : tie.After-cap) → Made c.cap.result (cap_by (quot_z c.before.before.args.cross (pos (nat_abs c.before.before.args.r)))) 1073741824
-k c = let s = c.before.before in called (rw (back (over (cross s) (r s) tt)) at c.cap.ensures) (known c.before).size tt
+k : (c : tie.After-cap-k) → Made c.cap-k.result (cap_by (quot_z c.before.before.args.cross (pos (nat_abs c.before.before.args.r)))) 1073741824
+k c = let s = c.before.before in called (rw (back (over (cross s) (r s) tt)) at c.cap-k.ensures) (known c.before).size tt
 
 -- what was said of the axis
-said : (c : tie.After-no-axis) → c.no-axis.result ≡ is_zero (pos (nat_abs c.before.before.before.args.pp))
-said c = rw (back (pp c.before.before.before)) at c.no-axis.ensures
+said : (c : tie.After-no_axis) → c.no_axis.result ≡ is_zero (pos (nat_abs c.before.before.before.args.pp))
+said c = rw (back (pp c.before.before.before)) at c.no_axis.ensures
 
-mul-if1 : tie.Need-overflow-mul-if1
+mul-if1 : tie.Need-overflow_mul-r
 mul-if1 c = (times (r c) (low c) tt).fits
 
-returns : tie.Need-returns
+returns : tie.Need-returns-then-cross-r
 returns c =
     let s = c.before in
-    as_came s (root (nat_abs s.args.pp)) (second_fails (is_zero (pos (nat_abs s.args.pp))) _ (refused s.args.cross (nat_abs s.args.r) (nat_abs s.args.pp) (nat_abs s.args.low) s.requires.low_under (test_lt (cross s) (times (r s) (low s) tt) c.if1.true)))
+    as_came s (root (nat_abs s.args.pp)) (second_fails (is_zero (pos (nat_abs s.args.pp))) _ (refused s.args.cross (nat_abs s.args.r) (nat_abs s.args.pp) (nat_abs s.args.low) s.requires.low_under (test_lt (cross s) (times (r s) (low s) tt) c.if-cross-r.true)))
 
-div-cap : tie.Need-nonzero-div-cap
+div-cap : tie.Need-nonzero_div-cross
 div-cap c = let s = c.before in (above_zero (r s) s.requires.cross_reach.r_above, (over (cross s) (r s) tt).fits)
 
-cap-requires : tie.Need-cap-requires
+cap-requires : tie.Need-cap-k-requires
 cap-requires c κs = search rules
 
-no-axis-requires : tie.Need-no-axis-requires
+no-axis-requires : tie.Need-no_axis-requires
 no-axis-requires c κs = search rules
 
-returns-2 : tie.Need-returns-2
-returns-2 c = let s = c.before.before.before.before in as_came s (root (nat_abs s.args.pp)) (first_fails _ _ (sym (said c.before) ∙ c.if2.true))
+returns-2 : tie.Need-returns-then-no_axis
+returns-2 c = let s = c.before.before.before.before in as_came s (root (nat_abs s.args.pp)) (first_fails _ _ (sym (said c.before) ∙ c.if-no_axis.true))
 
-mul-result : tie.Need-overflow-mul-result
+mul-result : tie.Need-overflow_mul-result
 mul-result c = (times (k c.before.before) (k c.before.before) tt).fits
 
-returns-3 : tie.Need-returns-3
+returns-3 : tie.Need-returns
 returns-3 c =
     let s = c.before.before.before.before in
-    as_came s (root (nat_abs s.args.pp)) (first_holds _ _ _ (sym (said c.before) ∙ c.if2.false) (rw (back (pp s), back (times (k c.before.before) (k c.before.before) tt)) (known c.before.before.before).answer))
+    as_came s (root (nat_abs s.args.pp)) (first_holds _ _ _ (sym (said c.before) ∙ c.if-no_axis.false) (rw (back (pp s), back (times (k c.before.before) (k c.before.before) tt)) (known c.before.before.before).answer))
 
 pub beyond_spec : {M : Type 1} → statement M
 beyond_spec = tie.close (tie.spec mul-if1 returns div-cap cap-requires no-axis-requires returns-2 mul-result returns-3)

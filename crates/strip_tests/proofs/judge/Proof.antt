@@ -15,17 +15,17 @@ use Rattle.strip_tests.proofs.judge.Tie as tie
 made : (c : tie.Start) → NodeMade c.args.wx c.args.wy c.args.p c.args.q c.args.a c.args.b c.args.r
 made c = node_made c.requires c.ranges.wx c.ranges.wy c.ranges.p c.ranges.q c.ranges.a c.ranges.b c.ranges.r
 
-ax : (c : tie.After-abs) → Made c.abs.result (absℤ c.before.args.wx) 1073741824
-ax c = abs_of (made c.before).wx_made c.abs.ensures tt
+ax : (c : tie.After-abs-ax) → Made c.abs-ax.result (absℤ c.before.args.wx) 1073741824
+ax c = abs_of (made c.before).wx_made c.abs-ax.ensures tt
 
-ay : (c : tie.After-abs2) → Made c.abs2.result (absℤ c.before.before.args.wy) 1073741824
-ay c = abs_of (made c.before.before).wy_made c.abs2.ensures tt
+ay : (c : tie.After-abs-ay) → Made c.abs-ay.result (absℤ c.before.before.args.wy) 1073741824
+ay c = abs_of (made c.before.before).wy_made c.abs-ay.ensures tt
 
-ap : (c : tie.After-abs3) → Made c.abs3.result (absℤ c.before.before.before.args.p) 536870912
-ap c = abs_of (made c.before.before.before).p_made c.abs3.ensures tt
+ap : (c : tie.After-abs) → Made c.abs.result (absℤ c.before.before.before.args.p) 536870912
+ap c = abs_of (made c.before.before.before).p_made c.abs.ensures tt
 
-aq : (c : tie.After-abs4) → Made c.abs4.result (absℤ c.before.before.before.before.args.q) 536870912
-aq c = abs_of (made c.before.before.before.before).q_made c.abs4.ensures tt
+aq : (c : tie.After-abs-2) → Made c.abs-2.result (absℤ c.before.before.before.before.args.q) 536870912
+aq c = abs_of (made c.before.before.before.before).q_made c.abs-2.ensures tt
 
 -- the three tests, as the code knows their answers
 module _ (c : tie.After-inside) where
@@ -64,44 +64,44 @@ by_slanted i a s e f g = rw (e, f, g)
 by_none : (i a s : Bool) → i ≡ false → a ≡ false → s ≡ false → 1 ≡ code (by_tests i (a || s))
 by_none i a s e f g = rw (e, f, g)
 
-abs-requires : tie.Need-abs-requires
+abs-requires : tie.Need-abs-ax-requires
 abs-requires c κs = sized 4000000000000000000 (made c).wx_made tt
 
-abs-requires-2 : tie.Need-abs-requires-2
+abs-requires-2 : tie.Need-abs-ay-requires
 abs-requires-2 c κs = sized 4000000000000000000 (made c.before).wy_made tt
 
-abs-requires-3 : tie.Need-abs-requires-3
+abs-requires-3 : tie.Need-abs-requires
 abs-requires-3 c κs = sized 4000000000000000000 (made c.before.before).p_made tt
 
-add-ex : tie.Need-overflow-add-ex
+add-ex : tie.Need-overflow_add-ex
 add-ex c = (plus (ap c) (made c.before.before.before).a_made tt).fits
 
-abs-requires-4 : tie.Need-abs-requires-4
+abs-requires-4 : tie.Need-abs-requires-2
 abs-requires-4 c κs = sized 4000000000000000000 (made c.before.before.before).q_made tt
 
-add-ey : tie.Need-overflow-add-ey
+add-ey : tie.Need-overflow_add-ey
 add-ey c = (plus (aq c) (made c.before.before.before.before).b_made tt).fits
 
 inside-requires : tie.Need-inside-requires
 inside-requires c κs = rw (back (ax c.before.before.before), back (ay c.before.before), back (plus (ap c.before) (made c.before.before.before.before).a_made tt), back (plus (aq c) (made c.before.before.before.before).b_made tt), back (made c.before.before.before.before).r_made) (span_of_is c.before.before.before.before.requires)
 
-returns : tie.Need-returns
-returns c = by_inside _ _ (sym (inside_is c.before) ∙ c.if1.true)
+returns : tie.Need-returns-then-inside
+returns c = by_inside _ _ (sym (inside_is c.before) ∙ c.if-inside.true)
 
 apart-requires : tie.Need-apart-requires
 apart-requires c κs = rw (back (ax c.before.before.before.before.before), back (ay c.before.before.before.before), back (plus (ap c.before.before.before) (made c.before.before.before.before.before.before).a_made tt), back (plus (aq c.before.before) (made c.before.before.before.before.before.before).b_made tt), back (made c.before.before.before.before.before.before).r_made) (span_of_is c.before.before.before.before.before.before.requires)
 
-returns-2 : tie.Need-returns-2
-returns-2 c = by_apart _ _ _ (sym (inside_is c.before.before.before) ∙ c.before.before.if1.false) (sym (apart_is c.before) ∙ c.if2.true)
+returns-2 : tie.Need-returns-then-apart
+returns-2 c = by_apart _ _ _ (sym (inside_is c.before.before.before) ∙ c.before.before.if-inside.false) (sym (apart_is c.before) ∙ c.if-apart.true)
 
 slanted-requires : tie.Need-slanted-requires
 slanted-requires c κs = search rules
 
-returns-3 : tie.Need-returns-3
-returns-3 c = by_slanted _ _ _ (sym (inside_is c.before.before.before.before.before) ∙ c.before.before.before.before.if1.false) (sym (apart_is c.before.before.before) ∙ c.before.before.if2.false) (sym (slanted_is c.before) ∙ c.if3.true)
+returns-3 : tie.Need-returns-then-slanted
+returns-3 c = by_slanted _ _ _ (sym (inside_is c.before.before.before.before.before) ∙ c.before.before.before.before.if-inside.false) (sym (apart_is c.before.before.before) ∙ c.before.before.if-apart.false) (sym (slanted_is c.before) ∙ c.if-slanted.true)
 
-returns-4 : tie.Need-returns-4
-returns-4 c = by_none _ _ _ (sym (inside_is c.before.before.before.before.before) ∙ c.before.before.before.before.if1.false) (sym (apart_is c.before.before.before) ∙ c.before.before.if2.false) (sym (slanted_is c.before) ∙ c.if3.false)
+returns-4 : tie.Need-returns-else-slanted
+returns-4 c = by_none _ _ _ (sym (inside_is c.before.before.before.before.before) ∙ c.before.before.before.before.if-inside.false) (sym (apart_is c.before.before.before) ∙ c.before.before.if-apart.false) (sym (slanted_is c.before) ∙ c.if-slanted.false)
 
 pub judge_spec : {M : Type 1} → statement M
 judge_spec =
