@@ -2,6 +2,4 @@
 pub mod Rows
 pub mod Versions
 pub mod Counts
-pub mod Goes
 pub mod Promises
-pub mod Callers

@@ -9,7 +9,7 @@ abbrev pub major : ℕ
 major = 1
 
 abbrev pub minor : ℕ
-minor = 2
+minor = 1
 
 abbrev pub patch : ℕ
 patch = 0

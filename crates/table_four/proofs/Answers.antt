@@ -1,15 +1,15 @@
 -- The needs of the checks and of the answer, over plain variables. Assumes nothing.
-use mathlib.Core.Path.{◌≡◌, refl, sym, ap, ◌∙◌, subst}
+use mathlib.Core.Path.{◌≡◌, sym, ap, ◌∙◌, subst}
 use mathlib.Core.Bool.{Bool, true, false, cond}
 use mathlib.Core.List.{List, [], ◌++◌}
 use Prim.Native.Nat.{ℕ, zero, suc, ◌+◌, ◌*◌, ◌≤◌, ◌<◌}
 use native.Mathlib.Nat.{mul-le-mul}
 use native.Mathlib.Omega.{arith}
 use lib.Dec.{T, leb, eqb}
-use lib.ListN.{length, get_or}
+use lib.ListN.{length}
 use mir.Syntax.{w64}
 use mir.Val.{Fits}
-use borrow.Author.Tests.{lt-leb, le-leb, leb-true, eq-eqb, ne_eqb, eqb-true}
+use borrow.Author.Tests.{lt-leb, le-leb, leb-true, eq-eqb, ne_eqb}
 use Rattle.model.specs.declared.Job.{Job}
 use Rattle.model.specs.declared.Grid.{Grid}
 use Rattle.model.specs.Refusals as refused
@@ -25,9 +25,9 @@ use Rattle.table_four.specs.declared.Placed.{Placed}
 use Rattle.table_four.specs.declared.Checked.{Checked}
 use Rattle.table_four.specs.Table.{leading, every, is_letter, on_plate, clamp_at, clear_cells, clear_rows, clear_clamps, place_checks, place_refusal, turned_away, gone, either, stopped, placed_by, place}
 use Rattle.table_four.specs.Promises.{GoMeans}
-use Rattle.table_four.specs.Leading.{leading_most, not_all, leading_stop, leading_first}
-use Rattle.table_four.specs.Places.{On, Within, placed_on}
-use Rattle.table_four.specs.Go.{go_true}
+use Rattle.table_four.specs.Leading.{not_all, leading_stop}
+use Rattle.table_four.specs.Places.{Within, placed_on}
+use Rattle.table_four.proofs.Go.{go_true}
 
 -- a map's side is no longer than all of its cells
 pub row_fits : (n : ℕ) → n ≤ n * n

@@ -5,7 +5,7 @@ use mathlib.Core.List.{List}
 use Prim.Native.Nat.{ℕ, suc, ◌+◌, ◌-◌, ◌*◌, ◌≤◌, ◌<◌}
 use native.Mathlib.Omega.{arith}
 use native.Mathlib.Nat.{mul-le-mul_right, mul-le-mul}
-use lib.Dec.{leb, ltb, eqb}
+use lib.Dec.{leb, eqb}
 use lib.ListN.{length, get_or}
 use borrow.Author.Tests.{not-true, not-false, eq-eqb, ne_eqb, lt-leb, le-leb, le-ltb, lt-ltb}
 use mir.Syntax.{w64}
@@ -14,7 +14,7 @@ use Rattle.table_four.specs.declared.Clamp.{Clamp}
 use Rattle.table_four.specs.Table as table
 use Rattle.table_four.specs.Table.{leading, is_clear, is_letter, letter_byte, clamp_at, on_plate, lies, clear_cells, clear_rows}
 use Rattle.table_four.specs.Leading.{leading_most, leading_next, leading_last, leading_done}
-use Rattle.table_four.specs.Places.{On, Within}
+use Rattle.table_four.specs.Places.{Within}
 
 -- after n of k, from s on
 pub record Sofar (f : ℕ → Bool) (k s n : ℕ) : Type 0 where

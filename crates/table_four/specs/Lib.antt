@@ -4,10 +4,8 @@ pub mod Cases
 pub mod Promises
 -- ---- worked figures
 pub mod Figures
--- ---- laws: of counting, of clamps on the plate, of clear cells; which refusal, what a go means, what is named
+-- ---- laws: of counting, of clamps on the plate, of clear cells; which refusal. What a go means and what is named stand in proofs/
 pub mod Leading
 pub mod Places
 pub mod Clear
 pub mod Lowest
-pub mod Go
-pub mod Named

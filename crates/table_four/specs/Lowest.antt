@@ -1,7 +1,7 @@
 -- RULES, "Clamps": the refusal of the clamps is the lowest whose case applies (`place_lowest`). Assumes nothing.
-use Rattle.std.specs.Prelude.{◌≡◌, refl, Bool, true, false, ◌&&◌, ◌||◌, ◌⊎◌, List, [], ℕ, zero, suc, ◌+◌, ◌*◌, ◌-◌, ◌≤◌, ◌<◌, T, leb, ltb, eqb, length, get_or}
-use Rattle.std.proofs.Common.{sym, ap, ◌∙◌, subst, inl, inr, ⊎_elim, arith, leb-true, leb-false, ltb-false, eqb-true, le-ltb, ne_eqb}
-use Rattle.std.proofs.lemmas.Bool.{eqb-false, lt-leb}
+use Rattle.std.specs.Prelude.{◌≡◌, refl, Bool, true, false, ◌&&◌, ◌||◌, ◌⊎◌, List, ℕ, zero, suc, ◌+◌, ◌-◌, ◌≤◌, ◌<◌, T, leb, ltb, eqb, length, get_or}
+use Rattle.std.proofs.Common.{sym, ◌∙◌, subst, inl, inr, arith, leb-true, leb-false, ltb-false, ne_eqb}
+use Rattle.std.proofs.lemmas.Bool.{eqb-false}
 use Rattle.integers.specs.Tests.{or_false}
 use Rattle.model.specs.declared.Job.{Job}
 use Rattle.model.specs.Refusals as refused

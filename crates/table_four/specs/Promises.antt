@@ -1,5 +1,5 @@
 -- RULES, "Clamps": what is promised of the clamps: each promise as a named statement. Assumes nothing.
-use Rattle.std.specs.Prelude.{◌≡◌, true, false, ◌⊎◌, ◌↔◌, List, ℕ, ◌+◌, ◌*◌, ◌^◌, ◌<◌, ℤ, pos, ◌+ℤ◌}
+use Rattle.std.specs.Prelude.{◌≡◌, true, false, ◌↔◌, List, ℕ, ◌+◌, ◌*◌, ◌^◌, ◌<◌, ℤ, pos, ◌+ℤ◌}
 use Rattle.model.specs.declared.Job.{Job}
 use Rattle.model.specs.Refusals.{Lowest}
 use Rattle.model.specs.Jobs.{outline, cell_log}

@@ -1,5 +1,7 @@
 // Table four: whether a job's map leaves its four clamps clear. A crate above the library: of the code below it calls the face alone, and a go is
 // proved from the map's promise. RULES, "Clamps".
+#![tactic(auto)]
+
 ghost use Rattle.std.specs.Prelude.{◌≡◌, true, ℕ, ◌+◌, ◌*◌, ◌≤◌, ◌<◌, eqb, length};
 ghost use Rattle.model.specs.Plates.{columns};
 ghost use Rattle.model.specs.Promises.{MapHolds};
@@ -12,7 +14,7 @@ use model::{CLEAR, DOUBTFUL, INSIDE, Job, LETTER, OFF_PLATE, SPACE};
 const CLAMPS: usize = 4;
 
 // A clamp: its first column and row, from 0, and its counts of columns and rows.
-#[derive(Drop)]
+#[derive(Clone, Copy)]
 pub struct Clamp {
     pub column: usize,
     pub row: usize,
@@ -22,7 +24,7 @@ pub struct Clamp {
 
 // What the clamps are answered: the refusal's number or 0, whether it is a go, and where it is none the first clamp with a cell that is not clear,
 // with the lowest and then leftmost such cell by the map's column and row; zeros where it is refused or a go.
-#[derive(Drop)]
+#[derive(Clone, Copy)]
 pub struct Placed {
     pub refusal: u8,
     pub go: bool,
@@ -32,7 +34,7 @@ pub struct Placed {
 }
 
 // The refusal's number or 0, and the cells a side of the map, 0 where it is refused.
-#[derive(Drop)]
+#[derive(Clone, Copy)]
 struct Checked {
     refusal: u8,
     side: usize,
@@ -127,6 +129,7 @@ fn letters(cells: &[u8], count: usize) -> usize
 // ---- clear
 
 // How many of `count` cells from the place `at` on are C before the first that is not.
+#[tactic(auto, using(crate::proofs::Loops::clear_off, crate::proofs::Loops::clear_on, crate::proofs::Loops::ended))]
 fn clear_cells(cells: &[u8], at: usize, count: usize) -> usize
     requires room { at + count ≤ length cells.now }
     ensures answer { result ≡ table.leading (table.is_clear cells.now) count at }

@@ -3,7 +3,7 @@ use borrow.Author.Rules.{rules}
 use Rattle.exports.proofs.edge_number.Statement.{statement}
 use Rattle.exports.proofs.edge_number.Tie as tie
 
-cast-result : tie.Need-overflow-cast-result
+cast-result : tie.Need-overflow_cast-result
 cast-result c = search rules
 
 returns : tie.Need-returns

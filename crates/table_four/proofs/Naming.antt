@@ -1,16 +1,15 @@
 -- RULES, "Clamps": when it is a go (`place_go`), what is named otherwise (`place_names`, `names_one`) and when nothing is (`place_nothing`).
 -- Assumes nothing.
-use Rattle.std.specs.Prelude.{◌≡◌, refl, Bool, true, false, ◌⊎◌, ◌↔◌, List, ℕ, zero, suc, ◌+◌, ◌*◌, ◌-◌, ◌≤◌, ◌<◌, T, eqb, get_or}
-use Rattle.std.proofs.Common.{sym, ap, ◌∙◌, subst, inl, inr, arith, eqb-true, eq-eqb, ne_eqb}
+use Rattle.std.specs.Prelude.{◌≡◌, refl, Bool, true, false, List, ℕ, ◌+◌, ◌*◌, ◌-◌, ◌≤◌, ◌<◌, T, eqb, get_or}
+use Rattle.std.proofs.Common.{sym, ap, ◌∙◌, subst, arith, eqb-true, eq-eqb, ne_eqb}
 use Rattle.std.proofs.lemmas.Bool.{eqb-false}
 use Rattle.model.specs.declared.Job.{Job}
-use Rattle.model.specs.Refusals.{accepted}
 use Rattle.model.specs.Plates.{columns}
 use Rattle.ranges.specs.Refusals.{accepted_is, refused_is}
 use Rattle.table_four.specs.declared.Clamp.{Clamp}
 use Rattle.table_four.specs.declared.Placed.{Placed}
-use Rattle.table_four.specs.Table.{leading, clamp_at, is_clear, clear_cells, clear_rows, clear_clamps, place_refusal, turned_away, gone, stopped, either, placed_by, place}
-use Rattle.table_four.specs.Leading.{leading_most, leading_pass, leading_stop, not_all}
+use Rattle.table_four.specs.Table.{clamp_at, is_clear, clear_cells, clear_rows, clear_clamps, place_refusal, turned_away, gone, stopped, either, placed_by, place}
+use Rattle.table_four.specs.Leading.{leading_pass, leading_stop, not_all}
 use Rattle.table_four.specs.Clear.{gone_is, clamp_clear, clamps_clear}
 use Rattle.table_four.specs.Lowest.{refusal_is}
 use Rattle.table_four.specs.Promises.{AllClear, PlaceGo, Names, PlaceNames, NamesOne, Nothing, PlaceNothing}

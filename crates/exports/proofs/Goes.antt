@@ -6,7 +6,7 @@ use Rattle.model.specs.Promises.{MapHolds}
 use Rattle.ranges.specs.Refusals.{accepted_is}
 use Rattle.table_four.specs.Table.{place}
 use Rattle.table_four.specs.Promises.{GoMeans}
-use Rattle.table_four.specs.Go.{go_true}
+use Rattle.table_four.proofs.Go.{go_true}
 use Rattle.exports.specs.Rows.{flag, go_in, placed_left}
 
 flag_go : (b : Bool) → flag b ≡ 1 → b ≡ true
