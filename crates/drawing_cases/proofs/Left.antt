@@ -1,13 +1,12 @@
 -- What an accepted map leaves: a legal job, and a store that begins with its trees. Assumes nothing.
 use mathlib.Core.Path.{◌≡◌, refl, sym, ◌∙◌, subst}
 use mathlib.Core.List.{List}
-use Prim.Native.Nat.{ℕ, ◌≤◌}
+use Prim.Native.Nat.{ℕ}
 use native.Mathlib.Omega.{arith}
 use lib.IntN.{ℤ}
 use lib.ListN.{length, drop}
 use Rattle.model.specs.declared.Job.{Job}
 use Rattle.model.specs.Store.{forest, store_of}
-use Rattle.model.specs.Plates.{cells_of}
 use Rattle.model.specs.Entries.{over, map_refusal, map, map_store}
 use Rattle.ranges.specs.Refusals.{accepted_is}
 use Rattle.ranges.specs.Legal.{legal}

@@ -1,10 +1,12 @@
 // Draws each stored sheet's map once more by rows and once more by quarters, from the trees that the map's call left, and tells how many bytes of each
 // differ from what that call drew. Both ways are proved to draw the same; here the compiled code does both on every stored job.
+#![tactic(auto)]
+
 ghost use Rattle.std.specs.Prelude.{◌≡◌, cond, ◌≤◌, eqb, length};
 ghost use Rattle.drawing.specs.Ready.{MapReady};
 
-use libc::STDOUT_FILENO;
 use model::Job;
+use std::rt::{Env, Files};
 
 // 1 where two bytes differ, else 0
 fn differs(a: u8, b: u8) -> usize
@@ -45,54 +47,58 @@ fn compare(job: Job, store: &[i32], cells: &[u8; 65536], by_rows: bool) -> usize
     differing(&again, cells)
 }
 
-fn show_ways(job: Job, store: &[i32], cells: &[u8; 65536])
+fn show_ways(rt: &impl Print, job: Job, store: &[i32], cells: &[u8; 65536])
     requires ready { MapReady job cells.now store.now × (length cells.now ≡ 65536) }
 {
-    case_files::show_number(b"(rows ", compare(job, store, cells, true) as u64);
-    case_files::show_number(b") (quarters ", compare(job, store, cells, false) as u64);
-    io::write_all(STDOUT_FILENO, b")\n");
+    case_files::show_number(rt, b"(rows ", compare(job, store, cells, true) as u64);
+    case_files::show_number(
+        rt,
+        b") (quarters ",
+        compare(job, store, cells, false) as u64,
+    );
+    case_files::show(rt, b")\n");
 }
 
 // With as much memory as the program lends, so that the same jobs are refused.
-fn draw_job(job: Job) {
+fn draw_job(rt: &impl Print, job: Job) {
     let mut space = [0i32; 16379];
     let mut cells = no_cells();
     let store: &mut [i32] = &mut space;
     let done = clearance::map(job, store, &mut cells);
     let refusal = done.refusal;
     if refusal != 0 {
-        case_files::show_refusal(refusal);
+        case_files::show_refusal(rt, refusal);
         return;
     }
-    show_ways(job, store, &cells);
+    show_ways(rt, job, store, &cells);
 }
 
-fn draw_sheet(sheet: &[u8]) {
+fn draw_sheet(rt: &impl Print, sheet: &[u8]) {
     let got = clearance::read(sheet);
     let refusal = got.refusal;
     if refusal != 0 {
-        case_files::show_refused(got, sheet);
+        case_files::show_refused(rt, got, sheet);
         return;
     }
     let job = got.job;
-    draw_job(job);
+    draw_job(rt, job);
 }
 
-fn draw_case(i: usize) {
+fn draw_case<R: Env + Files + Print>(rt: &R, i: usize) {
     let mut sheet = [0u8; 8193];
-    let stored = case_files::read_case(i, &mut sheet);
+    let stored = case_files::read_case(rt, i, &mut sheet);
     let failed = stored.failed;
     let k = stored.count;
     if !failed {
-        draw_sheet(&sheet[..k]);
+        draw_sheet(rt, &sheet[..k]);
     }
 }
 
-fn main() {
-    let n = os::arg_count();
-    let mut i: usize = 1;
-    while i < n {
-        draw_case(i);
-        i += 1;
+fn main(rt: HostRuntime) {
+    for i in 1..usize::MAX {
+        if !case_files::has_case(&rt, i) {
+            break;
+        }
+        draw_case(&rt, i);
     }
 }

@@ -1,19 +1,19 @@
 -- The needs of reading an input piece after piece, over plain variables. Assumes nothing.
-use mathlib.Core.Path.{◌≡◌, refl, sym, ap, ap₂, ◌∙◌, subst}
-use mathlib.Core.Bool.{Bool, true, false, cond, not, ◌&&◌}
+use mathlib.Core.Path.{◌≡◌, refl, sym, ap, ◌∙◌, subst}
+use mathlib.Core.Bool.{Bool, true, false, cond, not}
 use mathlib.Core.List.{List, [], ◌∷◌, ◌++◌}
-use Prim.Native.Nat.{ℕ, zero, suc, ◌+◌, ◌-◌, ◌≤◌, ◌<◌, min}
+use Prim.Native.Nat.{ℕ, suc, ◌+◌, ◌-◌, ◌≤◌, ◌<◌}
 use native.Mathlib.Omega.{arith}
-use lib.Dec.{T, ltb, eqb}
+use lib.Dec.{ltb, eqb}
 use lib.IntN.{ℤ, pos, negsuc}
-use lib.ListN.{length, take, length-append, length-take}
+use lib.ListN.{length, take, length-append}
 use lib.Seq.{length-take-le}
 use lib.Signed.{lt_z}
 use borrow.Author.Tests.{ltb-true, eqb-false}
 use borrow.Rule.Slice.PartMut.{put_mid, mid_of, mid_len, same_len_mid}
 use Rattle.sequences.specs.Parts.{tail_put}
 use Rattle.integers.specs.Tests.{both, negated}
-use Rattle.io.specs.Counts.{IsPrefixLen, clamp_len}
+use Rattle.std.specs.Counts.{IsPrefixLen, clamp_len}
 use Rattle.streams.specs.declared.inputs.Input.{Input}
 use Rattle.streams.specs.Reading.{Reply, given, piece, unread, after, goes_on, in_turn, pieces, Unbroken, ReadOn, Came}
 
@@ -64,7 +64,9 @@ module _ (before now : List ℕ) (i r : Input) (s : So before i) (o : ReadOn bef
         ∙ take_two (take i.count before) o.reply.lent (given o.reply)
         ∙ ap (λ l. l ++ piece o.reply) s.bytes
         ∙ (unfold pieces in refl);
-    unbroken = unfold Unbroken in rw same (sym (ap (goes_on (length before)) s.in_turn_is) ∙ more, s.unbroken);
+    unbroken =
+        subst (λ n. Unbroken n (o.reply ∷ s.replies)) (sym same)
+        (unfold Unbroken in (sym (ap (goes_on (length before)) s.in_turn_is) ∙ more, s.unbroken));
     within = omega (arith, counted, behind, few o.reply.got (length o.reply.lent));
   }
 

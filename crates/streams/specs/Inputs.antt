@@ -1,5 +1,5 @@
 -- The input and what is read of it. A sheet has at most 8,192 bytes, so the first 8,193 of an input decide what is printed. Assumes nothing.
-use Rattle.std.specs.Prelude.{◌≡◌, refl, true, false, not, List, [], ◌∷◌, ◌⊎◌, ℕ, ◌≤◌, T, eqb, ℤ, pos, negsuc, length, take}
+use Rattle.std.specs.Prelude.{◌≡◌, true, false, not, List, [], ◌∷◌, ◌⊎◌, ℕ, ◌≤◌, T, eqb, ℤ, pos, negsuc, length, take}
 use Rattle.std.proofs.Common.{sym, ap, subst, ◌∙◌, arith, length-take-le, take_all, le-ltb}
 use Rattle.std.specs.Int.Signed.{lt_z}
 use Rattle.model.specs.Bytes.{bytes}
@@ -7,7 +7,7 @@ use Rattle.model.specs.Entries.{read_answer, read}
 use Rattle.model.specs.Printing.{map_answered, printed}
 use Rattle.integers.specs.Tests.{both, negated}
 use Rattle.sheet_text.specs.Sheets.{front_read}
-use Rattle.io.specs.Counts.{clamp_len}
+use Rattle.std.specs.Counts.{clamp_len}
 use Rattle.streams.specs.declared.inputs.Input.{Input}
 use Rattle.streams.specs.Reading.{Reply, given, goes_on, in_turn, Unbroken, Came}
 

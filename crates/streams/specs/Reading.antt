@@ -2,8 +2,8 @@
 -- replies: what is known of the input and the bytes held are as those have it. Assumes nothing.
 use Rattle.std.specs.Prelude.{◌≡◌, Bool, true, false, not, ◌&&◌, List, [], ◌∷◌, ◌++◌, ℕ, ◌+◌, ◌≤◌, ltb, eqb, ℤ, pos, length, take}
 use Rattle.std.specs.Int.Signed.{lt_z}
-pub use Rattle.io.specs.Counts.{IsPrefixLen as Counts}
-use Rattle.io.specs.Counts.{clamp_len}
+pub use Rattle.std.specs.Counts.{IsPrefixLen as Counts}
+use Rattle.std.specs.Counts.{clamp_len}
 use Rattle.streams.specs.declared.inputs.Input.{Input}
 
 -- a read's reply: its answer, and what the memory lent to it then holds

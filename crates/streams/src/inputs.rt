@@ -1,12 +1,16 @@
 // An input read piece after piece.
-ghost use Rattle.std.specs.Prelude.{◌≡◌, ◌+◌, ◌≤◌, eqb, pos, length};
+ghost use Rattle.std.specs.Prelude.{◌≡◌, ◌+◌, ◌≤◌, eqb, pos, negsuc, length, IfOk, OnErr};
 ghost use Rattle.std.specs.Int.Signed.{lt_z};
-ghost use Rattle.io.specs.Counts.{IsPrefixLen, clamp_len};
+ghost use Rattle.std.specs.Io.{ReadsAtMost};
+ghost use Rattle.std.specs.Counts.{IsPrefixLen, clamp_len};
 ghost use Rattle.streams.specs.Reading.{unread, goes_on, Room, ReadOn, Came};
+
+use std::io;
+use std::io::Read;
 
 // What was read of an input: how many bytes of it are held, whether the last read gave none, and whether that read failed. The fields are
 // private, so that only this file makes one.
-#[derive(Drop)]
+#[derive(Clone, Copy)]
 pub struct Input {
     count: usize,
     ended: bool,
@@ -45,15 +49,39 @@ fn goes_on(input: Input, room: usize) -> bool
     !input.ended && input.count < room
 }
 
-// An answer of the system's read where it was lent `part`, behind `at` bytes that are held: below 0 it failed, and otherwise that many bytes
-// are there. A read that a signal breaks off before it has a byte answers below 0 and counts as failed.
+// A reader's answer as one number: how many bytes it gave, or -1 where the read failed.
+fn answered(read: io::Result<usize>, part: &[u8]) -> isize
+    requires within { ReadsAtMost read part.now }
+    ensures gave { IfOk read (λ n. result ≡ pos n) }
+    ensures failed { OnErr read (result ≡ negsuc 0) }
+{
+    match read {
+        Ok(n) => n as isize,
+        Err(_) => -1,
+    }
+}
+
+// How many bytes of `part` such an answer says are there.
+fn given(got: isize, part: &[u8]) -> usize
+    ensures value { result ≡ clamp_len got (length part.now) }
+{
+    if got < 0 {
+        return 0;
+    }
+    let most = part.len();
+    let n = got as usize;
+    if n < most { n } else { most }
+}
+
+// An answer where the reader was lent `part`, behind `at` bytes that are held: below 0 it failed, and otherwise that many bytes are there. A read
+// that a signal breaks off before it has a byte answers below 0 and counts as failed.
 fn told(at: usize, got: isize, part: &[u8]) -> Input
     requires room { Room at (length part.now) }
     ensures count { result.count ≡ at + clamp_len got (length part.now) }
     ensures ended { result.ended ≡ eqb (clamp_len got (length part.now)) 0 }
     ensures failed { result.failed ≡ lt_z got (pos 0) }
 {
-    let more = io::count(got, part);
+    let more = given(got, part);
     Input {
         count: at + more,
         ended: more == 0,
@@ -62,23 +90,25 @@ fn told(at: usize, got: isize, part: &[u8]) -> Input
 }
 
 // Reads once, behind the bytes that are held.
-fn read_more(fd: i32, held: &mut [u8], input: Input) -> Input
+fn read_more<R: Read>(reader: &mut R, held: &mut [u8], input: Input) -> Input
     requires within { input.count ≤ length held.old }
     ensures read { ReadOn held.old held.new input result }
 {
     let at = input.count;
-    let got = libc::read(fd, &mut held[at..]);
-    told(at, got, &held[at..])
+    let read = reader.read(&mut held[at..]);
+    let part = &held[at..];
+    let got = answered(read, part);
+    told(at, got, part)
 }
 
 // Reads an input from its front, piece after piece, until it ends, a read fails or the memory lent is full.
-pub fn read_input(fd: i32, held: &mut [u8]) -> Input
+pub fn read_input<R: Read>(reader: &mut R, held: &mut [u8]) -> Input
     ensures counted { IsPrefixLen result.count held.new }
     ensures came { Came held.new result }
 {
     let mut input = none_read();
     while goes_on(input, held.len()) {
-        input = read_more(fd, held, input);
+        input = read_more(reader, held, input);
     }
     input
 }

@@ -1,11 +1,16 @@
-// What the program writes. Two functions call the system, and each asks for what it is to be given: the answer and standard output, a line of
-// two and standard error.
+// What the program writes. Two functions call the handles that print, and each asks for what it is to be given: the answer and standard output, a
+// line of two and standard error.
 ghost use Rattle.std.specs.Prelude.{◌≡◌, true, false, pos, length};
 ghost use Rattle.streams.specs.Reading.{Came};
 ghost use Rattle.streams.specs.Inputs.{Answers, Message};
 
 use crate::inputs::Input;
-use libc::{STDERR_FILENO, STDOUT_FILENO};
+use std::str;
+
+// The descriptors of standard output and standard error.
+const STDOUT_FILENO: i32 = 1;
+
+const STDERR_FILENO: i32 = 2;
 
 // That an answer was handed on, and how many bytes it has; or that none was, and standard error tells why. The field is private, so that only
 // this file makes one.
@@ -15,33 +20,38 @@ pub struct Receipt {
 }
 
 // Writes the answer to an input that was read with no failure, and says whether all was taken.
-fn write_answer(fd: i32, text: &[u8], held: &[u8], input: Input) -> bool
+fn write_answer(rt: &(impl Print + Eprint), fd: i32, text: &[u8], held: &[u8], input: Input) -> bool
     requires standard_output { fd ≡ pos 1 }
     requires came { Came held.now input }
     requires read { input.failed ≡ false }
     requires answer { Answers held.now input.count text.now }
 {
-    io::write_all(fd, text)
+    prove!(fd == STDOUT_FILENO);
+    rt.write_all(text).is_ok()
 }
 
-// Tells what failed.
-fn tell(fd: i32, line: &[u8])
+// Tells what failed. Standard error takes text, which both lines are.
+fn tell(rt: &(impl Print + Eprint), fd: i32, line: &[u8])
     requires standard_error { fd ≡ pos 2 }
     requires message { Message line.now }
 {
-    io::write_all(fd, line);
+    prove!(fd == STDERR_FILENO);
+    if let Ok(text) = str::from_utf8(line) {
+        let _told = rt.eprint(text);
+    }
 }
 
 // Hands on the answer to an input that was read with no failure, and tells where it could not be written.
-pub fn hand_on(text: &[u8], held: &[u8], input: Input) -> Receipt
+pub fn hand_on(rt: &(impl Print + Eprint), text: &[u8], held: &[u8], input: Input) -> Receipt
     requires came { Came held.now input }
     requires read { input.failed ≡ false }
     requires answer { Answers held.now input.count text.now }
     ensures bytes { result.bytes ≡ length text.now }
 {
-    let written = write_answer(STDOUT_FILENO, text, held, input);
+    let written = write_answer(rt, STDOUT_FILENO, text, held, input);
     if !written {
         tell(
+            rt,
             STDERR_FILENO,
             b"clearmap: the answer could not be written\n",
         );
@@ -51,12 +61,13 @@ pub fn hand_on(text: &[u8], held: &[u8], input: Input) -> Receipt
 }
 
 // Tells that an input was not read to its end, and only of such a one.
-pub fn tell_unread(held: &[u8], input: Input) -> Receipt
+pub fn tell_unread(rt: &(impl Print + Eprint), held: &[u8], input: Input) -> Receipt
     requires came { Came held.now input }
     requires unread { input.failed ≡ true }
     ensures none { result.bytes ≡ 0 }
 {
     tell(
+        rt,
         STDERR_FILENO,
         b"clearmap: the input could not be read to its end\n",
     );
