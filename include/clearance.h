@@ -25,8 +25,9 @@
  * `store`, `cells` or `reply` on and changes nothing past what it writes.
  *
  * Stack. A thread with a stack of 64 KB can call every function. That was measured
- * and is no theorem: on x86-64 Linux clearance_map ran with 36 KB, and each other
- * function with 24, on 64 edges of the deepest trees and on every example.
+ * with the Rattle kit 5b and is no theorem: on x86-64 Linux clearance_map ran with
+ * 36 KB, and each other function with 24, on 64 edges of the deepest trees and on
+ * every example.
  *
  * Jobs. A job is a row of CLEARANCE_JOB_NUMBERS numbers. A read fills such a row
  * and takes no other. The other functions take a row and its length: numbers that
@@ -47,10 +48,10 @@ extern "C" {
 
 /* The version: docs/VERSIONS.md says when each part rises. */
 #define CLEARANCE_MAJOR 1
-#define CLEARANCE_MINOR 2
+#define CLEARANCE_MINOR 1
 #define CLEARANCE_PATCH 0
 /* The version as clearance_version tells it, with the length of a job's row and
- * of a node in front: 583, 11, 001, 002, 000. */
+ * of a node in front: 583, 11, 001, 001, 000. */
 #define CLEARANCE_VERSION                                                      \
     (((UINT64_C(100) * CLEARANCE_JOB_NUMBERS + CLEARANCE_NODE_NUMBERS) * 1000 + \
       CLEARANCE_MAJOR) * 1000000 +                                             \
@@ -197,7 +198,7 @@ enum {
     /* Some point of the outline is within this; squared fine units. */
     CLEARANCE_HI = 1,
     /* The first edge, in the order of the job and from 0, with a leaf that gives
-     * the bound hi (theorems point-told and points-told). */
+     * the bound hi (theorems point_told and points_told). */
     CLEARANCE_EDGE = 2,
     /* How many numbers there are. */
     CLEARANCE_NEAREST_NUMBERS = 3
@@ -247,7 +248,7 @@ enum {
  *
  * is so where the rows or the nodes are of another length or the major version
  * is another, as long as a node has fewer than 100 numbers and each part of a
- * version is below 1000 (theorem version-tells).
+ * version is below 1000 (theorem version_tells).
  */
 uint64_t clearance_version(void);
 
@@ -313,7 +314,7 @@ uint8_t clearance_point(const int32_t *job, size_t job_len,
 /*
  * Bounds the distances of several points from the outline. Each point's three
  * numbers are those that clearance_point gives for it alone (theorem
- * points-alone), and their order only orders the answers (points-order). The
+ * points_alone), and their order only orders the answers (points_order). The
  * store is compared with the trees once for all of them; that is how the code is
  * written, and no theorem.
  *
@@ -327,11 +328,11 @@ uint8_t clearance_point(const int32_t *job, size_t job_len,
  * reply, reply_len  lo, hi and edge of each point are written to the start, in the
  *                   order of the spots: CLEARANCE_NEAREST_NUMBERS numbers a point.
  *                   CLEARANCE_SPOTS_MOST times as many are enough for every row
- *                   (theorem reply-room)
+ *                   (theorem reply_room)
  *
  * Returns 0, or of CLEARANCE_REFUSED_EDGES, _RANGE, _CELL, _SHEAF, _LONG, _STORE,
  * _SPACE and _STRANGER the first in this order that applies: 2, 3, 4, 9, 5, 6, 7,
- * 8 (theorem points-earliest).
+ * 8 (theorem points_earliest).
  */
 uint8_t clearance_points(const int32_t *job, size_t job_len,
                          const int32_t *spots, size_t spots_len,
@@ -346,8 +347,8 @@ uint8_t clearance_points(const int32_t *job, size_t job_len,
  *
  * If the map is the one that clearance_map drew for this job, a go means that no
  * point under a clamp, over all fractions, is nearer to the outline than the
- * reach; a point may be at the reach (theorems go-true and drawn-go; with a sheet
- * that is read, drawn and asked about, clamps-told). Whether the map is this job's
+ * reach; a point may be at the reach (theorems go_true and drawn_go; with a sheet
+ * that is read, drawn and asked about, clamps_told). Whether the map is this job's
  * is not checked.
  *
  * job, job_len      any numbers

@@ -1,4 +1,4 @@
-"""The program itself, target/bin/clearmap, held byte for byte to what is stored: at once, in pieces, and where reading or writing fails."""
+"""The program itself, crates/clearmap/out/clearmap, held byte for byte to what is stored: at once, in pieces, and where reading or writing fails."""
 
 import fcntl
 import os
@@ -10,7 +10,7 @@ import unittest
 from pathlib import Path
 
 TOP = Path(__file__).resolve().parent.parent
-CLEARMAP = TOP / "target" / "bin" / "clearmap"
+CLEARMAP = TOP / "crates/clearmap/out/clearmap"
 # Where stored maps and stored sheets are.
 MAPS, SHEETS = "differential/stored/maps", "differential/stored/sheets"
 NOT_READ = b"clearmap: the input could not be read to its end\n"

@@ -1,68 +1,82 @@
-"""What no contract can fix of the library from C, Rust and Python: the exported symbols are the functions of crates/exports/src/lib.rt, the five
-entries and the version, each with the whole contract that stands here, and the header, the Rust wrapper and the Python module declare them with the
-same arguments in the same order. The version is one everywhere."""
+"""What no contract can fix of the library from C, Rust and Python: the exported symbols are the functions of crates/exports_c/src/lib.rt, the five
+entries, table four's clamps and the version, each with the whole contract that stands here, as the function of crates/exports that it calls
+has it too; and the header, the Rust wrapper and the Python module declare them with the same arguments in the same order. The version is one
+everywhere."""
 
 import re
 import unittest
 from pathlib import Path
 
 TOP = Path(__file__).resolve().parent.parent
-EXPORTS = TOP / "crates/exports/src/lib.rt"
-SOURCE = EXPORTS.read_text(encoding="utf-8")
+# The library over rows, and the names in C over it.
+LIBRARY, EXPORTS = TOP / "crates/exports/src/lib.rt", TOP / "crates/exports_c/src/lib.rt"
+SOURCES = [path.read_text(encoding="utf-8") for path in (LIBRARY, EXPORTS)]
 ROWS = TOP / "crates/exports/specs/Rows.antt"
 # Each function with all clauses of its contract: what it returns, and what it leaves in each part of the memory that it may change. JOB is the job of
-# the row lent, any other word in capitals what was lent under that name.
+# the row lent.
 CONTRACTS = {
-    "clearance_version": {"number": "λ r. ⌜ r ≡ versionNumber ⌝"},
+    "clearance_version": {"number": "result ≡ version_number"},
     "clearance_read": {
-        "refusal": "λ r. ⌜ r ≡ entries.read SHEET .refusal ⌝",
-        "row": "λ _. ⌜ now (job .exit) ≡ readLeaves SHEET (now (job .entry)) ⌝",
+        "refusal": "result ≡ (entries.read sheet.now).refusal",
+        "row": "job.new ≡ read_leaves sheet.now job.old",
     },
     "clearance_write": {
-        "refusal": "λ r. ⌜ r ≡ entries.write JOB OUT .refusal ⌝",
-        "count": "λ _. ⌜ now (bytes .exit) ≡ bytesLeft JOB OUT BYTES ⌝",
-        "lent": "λ _. ⌜ now (out .exit) ≡ entries.writeLeaves JOB OUT ⌝",
+        "refusal": "result ≡ (entries.write JOB out.old).refusal",
+        "count": "bytes.new ≡ bytes_left JOB out.old bytes.old",
+        "lent": "out.new ≡ entries.write_leaves JOB out.old",
     },
     "clearance_map": {
-        "refusal": "λ r. ⌜ r ≡ entries.map JOB STORE CELLS .refusal ⌝",
-        "count": "λ _. ⌜ now (nodes .exit) ≡ nodesLeft JOB STORE CELLS NODES ⌝",
-        "trees": "λ _. ⌜ now (store .exit) ≡ entries.mapStore JOB STORE CELLS ⌝",
-        "letters": "λ _. ⌜ now (cells .exit) ≡ entries.mapCells JOB STORE CELLS ⌝",
-        "demand3": "λ r. ⌜ (r ≡ 0 → MapHolds JOB (now (cells .exit))) ⌝",
+        "refusal": "result ≡ (entries.map JOB store.old cells.old).refusal",
+        "count": "nodes.new ≡ nodes_left JOB store.old cells.old nodes.old",
+        "trees": "store.new ≡ entries.map_store JOB store.old cells.old",
+        "letters": "cells.new ≡ entries.map_cells JOB store.old cells.old",
+        "demand3": "result ≡ 0 → MapHolds JOB cells.new",
     },
     "clearance_point": {
-        "refusal": "λ r. ⌜ r ≡ entries.point JOB x y STORE .refusal ⌝",
-        "numbers": "λ _. ⌜ now (nearest .exit) ≡ numbersLeft JOB x y STORE NEAREST ⌝",
-        "bounds": "λ r. ⌜ (r ≡ 0 → Bounds JOB (wholePoint x y) (loIn (now (nearest .exit))) (hiIn (now (nearest .exit)))) ⌝",
+        "refusal": "result ≡ (entries.point JOB x y store.now).refusal",
+        "numbers": "nearest.new ≡ numbers_left JOB x y store.now nearest.old",
+        "bounds": "result ≡ 0 → Bounds JOB (whole_point x y) (lo_in nearest.new) (hi_in nearest.new)",
     },
     "clearance_points": {
-        "refusal": "λ r. ⌜ r ≡ entries.pointsRefusal JOB SPOTS STORE REPLY ⌝",
-        "lent": "λ _. ⌜ now (reply .exit) ≡ entries.pointsReply JOB SPOTS STORE REPLY ⌝",
-        "bounds": "λ r. ⌜ (r ≡ 0 → PointsHold JOB SPOTS (now (reply .exit))) ⌝",
+        "refusal": "result ≡ entries.points_refusal JOB spots.now store.now reply.old",
+        "lent": "reply.new ≡ entries.points_reply JOB spots.now store.now reply.old",
+        "bounds": "result ≡ 0 → PointsHold JOB spots.now reply.new",
+    },
+    "clearance_clamps": {
+        "refusal": "result ≡ (table.place JOB cells.now clamps.now).refusal",
+        "numbers": "placed.new ≡ placed_left JOB cells.now clamps.now placed.old",
+        "go": "result ≡ 0 → go_in placed.new ≡ 1 → MapHolds JOB cells.now → GoMeans JOB clamps.now",
     },
 }
 # The definitions that the clauses cite, by the module that each comes from.
 CITED = {
-    "Rattle·model.specs.Entries": {"entries"},
-    "Rattle·model.specs.Promises": {"MapHolds", "Bounds", "wholePoint", "PointsHold"},
-    "Rattle·flat_jobs.specs.FlatJobs": {"jobFrom"},
-    "Rattle·exports·specs.specs.Rows": {"readLeaves", "bytesLeft", "nodesLeft", "loIn", "hiIn", "numbersLeft"},
-    "Rattle·exports·specs.specs.Versions": {"versionNumber"},
+    "Rattle.model.specs.Entries": {"entries"},
+    "Rattle.model.specs.Promises": {"MapHolds", "Bounds", "whole_point", "PointsHold"},
+    "Rattle.table_four.specs.Table": {"table"},
+    "Rattle.table_four.specs.Promises": {"GoMeans"},
+    "Rattle.flat_jobs.specs.FlatJobs": {"job_from"},
+    "Rattle.exports.specs.Rows": {"read_leaves", "bytes_left", "nodes_left", "lo_in", "hi_in", "numbers_left", "go_in", "placed_left"},
+    "Rattle.exports.specs.Versions": {"version_number"},
 }
 # What Rows says of them, entry by entry: what an accepted call leaves, and after a refused one what was there.
 LEFT = {
-    "readLeaves sheet row": "accepted (read sheet .refusal) (numbersOf (read sheet .job)) row",
-    "bytesLeft j out old": "accepted (write j out .refusal) (write j out .bytes) old",
-    "nodesLeft j store cells old": "accepted (map j store cells .refusal) (map j store cells .nodes) old",
-    "loIn numbers": "getD numbers 0 (pos 0)",
-    "hiIn numbers": "getD numbers 1 (pos 0)",
-    "edgeIn numbers": "getD numbers 2 (pos 0)",
-    "numbersLeft j x y store old": "accepted (point j x y store .refusal) "
-    "(point j x y store .lo ∷ point j x y store .hi ∷ pos (point j x y store .edge) ∷ []) old",
+    "read_leaves sheet row": "accepted (read sheet).refusal (numbers_of (read sheet).job) row",
+    "bytes_left j out old": "accepted (write j out).refusal (write j out).bytes old",
+    "nodes_left j store cells old": "accepted (map j store cells).refusal (map j store cells).nodes old",
+    "lo_in numbers": "get_or numbers 0 (pos 0)",
+    "hi_in numbers": "get_or numbers 1 (pos 0)",
+    "edge_in numbers": "get_or numbers 2 (pos 0)",
+    "numbers_left j x y store old": "accepted (point j x y store).refusal "
+    "((point j x y store).lo ∷ (point j x y store).hi ∷ pos (point j x y store).edge ∷ []) old",
+    "flag true": "1",
+    "flag false": "0",
+    "go_in numbers": "get_or numbers 0 0",
+    "placed_left j cells cs old": "accepted (place j cells cs).refusal "
+    "(flag (place j cells cs).go ∷ (place j cells cs).clamp ∷ (place j cells cs).column ∷ (place j cells cs).row ∷ []) old",
 }
 IN_C = {"u8": "uint8_t", "i32": "int32_t", "i64": "int64_t", "u64": "uint64_t", "usize": "size_t"}
 IN_PYTHON = {"const uint8_t *": "_bytes", "uint8_t *": "_bytes", "const int32_t *": "_int32s", "int32_t *": "_int32s", "int64_t *": "_int64s",
-             "size_t *": "_sizes", "size_t ": "_size", "int32_t ": "ctypes.c_int32"}
+             "const size_t *": "_sizes", "size_t *": "_sizes", "size_t ": "_size", "int32_t ": "ctypes.c_int32"}
 
 
 def listed(text):
@@ -71,8 +85,8 @@ def listed(text):
 
 
 def exported(text):
-    """The exported functions by name, each as (its arguments, what it returns, what stands between that and its body)."""
-    found = re.findall(r'#\[no_mangle\]\npub extern "C" fn (\w+)\(([^)]*)\) -> (\w+)\n((?:    .*\n)*)\{\n', text)
+    """The functions by name, of the library or with their names in C, each as (its arguments, what it returns, what stands between that and its body)."""
+    found = re.findall(r'^(?:#\[unsafe\(no_mangle\)\]\npub extern "C"|pub) fn (\w+)\(([^)]*)\) -> (\w+)\n((?:    .*\n)*)\{\n', text, re.M)
     return {name: (listed(arguments), IN_C[result], clauses) for name, arguments, result, clauses in found}
 
 
@@ -84,7 +98,7 @@ def contract(written):
 
 def spelled(clause):
     """A clause of the table as the source has it."""
-    return re.sub(r"\b[A-Z]{2,}\b", lambda word: f"(now ({word[0].lower()} .entry))", clause.replace("JOB", "(jobFrom (now (job .entry)))"))
+    return clause.replace("JOB", "(job_from job.now)")
 
 
 def bound(text):
@@ -106,7 +120,7 @@ def unfixed(text):
     found = []
     for name, (arguments, _, clauses) in exported(text).items():
         changed = [argument.split(": ")[0] for argument in arguments if "&mut " in argument]
-        found += [f"{name} {argument}" for argument in changed if f"λ _. ⌜ now ({argument} .exit) ≡ " not in clauses]
+        found += [f"{name} {argument}" for argument in changed if f"{{ {argument}.new ≡ " not in clauses]
     return found
 
 
@@ -167,24 +181,33 @@ def version_parts():
 
 class Exports(unittest.TestCase):
     def test_each_has_its_whole_contract(self):
-        self.assertEqual(unlike(SOURCE), [])
-        self.assertEqual(unfixed(SOURCE), [])
-        self.assertEqual(list(exported(SOURCE)), list(CONTRACTS))
+        for source in SOURCES:
+            self.assertEqual(unlike(source), [])
+            self.assertEqual(unfixed(source), [])
+            self.assertEqual(list(exported(source)), list(CONTRACTS))
+
+    def test_each_calls_its_own(self):
+        """The contracts say it too, but for what they leave open."""
+        library, exports = map(exported, SOURCES)
+        for name, (arguments, result, _) in exports.items():
+            self.assertEqual((arguments, result), library[name][:2])
+            given = ", ".join(argument.split(": ")[0] for argument in arguments)
+            self.assertIn(f"\n{{\n    exports::{name}({given})\n}}\n", SOURCES[1])
 
     def test_clauses_cite_what_the_rows_define(self):
         text = ROWS.read_text(encoding="utf-8")
         self.assertEqual(defined(text), LEFT)
         used = set(re.findall(r"\w+", " ".join(clause for clauses in CONTRACTS.values() for clause in clauses.values())))
-        self.assertLessEqual(set().union(*CITED.values()), used | {"jobFrom"})
-        # A C function leaves an edge among a point's numbers; only a promise reads it there.
-        self.assertEqual({head.split()[0] for head in defined(text)} - used, {"edgeIn"})
+        self.assertLessEqual(set().union(*CITED.values()), used | {"job_from"})
+        # A C function leaves an edge among a point's numbers, which only a promise reads there, and a go as a number among the clamps'.
+        self.assertEqual({head.split()[0] for head in defined(text)} - used, {"edge_in", "flag"})
 
     def test_nothing_else_is_exported(self):
         marks = {path: path.read_text(encoding="utf-8").count("no_mangle") for path in (TOP / "crates").rglob("*.rt")}
         self.assertEqual({path: count for path, count in marks.items() if count}, {EXPORTS: len(CONTRACTS)})
 
     def test_arguments_are_declared_in_order(self):
-        wanted = {name: (sum(map(lent, arguments), []), result) for name, (arguments, result, _) in exported(SOURCE).items()}
+        wanted = {name: (sum(map(lent, arguments), []), result) for name, (arguments, result, _) in exported(SOURCES[1]).items()}
         self.assertEqual(declared_in_c(), wanted)
         self.assertEqual(declared_in_rust(), wanted)
         kinds = {name: [IN_PYTHON[re.sub(r"\w+$", "", a)] for a in arguments] for name, (arguments, _) in wanted.items() if arguments}
@@ -195,54 +218,71 @@ class Exports(unittest.TestCase):
 
 
 class PlantedFaults(unittest.TestCase):
-    """Each fault is planted in a copy of the source's text, and has to be found."""
+    """Each fault is planted in a copy of a source's text, of the library's and of that with the names in C, and has to be found."""
 
-    def planted(self, old, new, text=SOURCE):
+    def planted(self, old, new, text):
         self.assertEqual(text.count(old), 1, old)
         return text.replace(old, new)
 
     def clause_lines(self):
-        for name, clauses in CONTRACTS.items():
-            for clause, said in clauses.items():
-                yield name, clause, f"    ensures {clause} {{ {spelled(said)} }}\n"
+        for source in SOURCES:
+            for name, clauses in CONTRACTS.items():
+                for clause, said in clauses.items():
+                    yield source, name, clause, f"    ensures {clause} {{ {spelled(said)} }}\n"
+
+    def planted_clauses(self, old, new):
+        """One clause's text in the place of another's, in each source."""
+        return [self.planted(old, new, source) for source in SOURCES]
 
     def test_each_clause_dropped(self):
-        for name, clause, line in self.clause_lines():
+        for source, name, clause, line in self.clause_lines():
             with self.subTest(name, clause=clause):
-                self.assertEqual(unlike(self.planted(line, "")), [name])
+                self.assertEqual(unlike(self.planted(line, "", source)), [name])
 
     def test_each_clause_emptied_or_renamed(self):
-        for name, clause, line in self.clause_lines():
-            for other in f"    ensures {clause} {{ λ _. ⌜ 0 ≡ 0 ⌝ }}\n", line.replace(f" {clause} ", f" {clause}_too "):
+        for source, name, clause, line in self.clause_lines():
+            for other in f"    ensures {clause} {{ 0 ≡ 0 }}\n", line.replace(f" {clause} ", f" {clause}_too "):
                 with self.subTest(name, other=other):
-                    self.assertEqual(unlike(self.planted(line, other)), [name])
+                    self.assertEqual(unlike(self.planted(line, other, source)), [name])
 
     def test_demands_on_the_caller(self):
-        line = "    requires few { ⌜ x ≡ y ⌝ }\n    ensures refusal { λ r. ⌜ r ≡ entries.point "
-        self.assertEqual(unlike(self.planted("    ensures refusal { λ r. ⌜ r ≡ entries.point ", line)), ["clearance_point"])
+        line = "    ensures refusal { result ≡ (entries.point "
+        for text in self.planted_clauses(line, "    requires few { x ≡ y }\n" + line):
+            self.assertEqual(unlike(text), ["clearance_point"])
 
     def test_arguments_exchanged_in_a_clause(self):
-        self.assertEqual(unlike(self.planted("(wholePoint x y)", "(wholePoint y x)")), ["clearance_point"])
+        for text in self.planted_clauses("(whole_point x y)", "(whole_point y x)"):
+            self.assertEqual(unlike(text), ["clearance_point"])
+
+    def test_what_was_lent_for_what_is_left(self):
+        for text in self.planted_clauses("MapHolds (job_from job.now) cells.new", "MapHolds (job_from job.now) cells.old"):
+            self.assertEqual(unlike(text), ["clearance_map"])
 
     def test_names_of_other_modules(self):
         for module, names in CITED.items():
-            with self.subTest(module):
-                self.assertEqual(unlike(self.planted(f"ghost use {module}", f"ghost use {module}·other")), sorted(names))
+            for source in SOURCES:
+                with self.subTest(module):
+                    text, count = re.subn(rf"^ghost use {re.escape(module)}(?=\.\{{| as )", rf"ghost use {module}Other", source, flags=re.M)
+                    self.assertEqual((count, unlike(text)), (1, sorted(names)))
 
     def test_functions_added_and_left_out(self):
-        self.assertEqual(unlike(self.planted("#[no_mangle]\npub extern \"C\" fn clearance_map(", "fn clearance_map(")), ["clearance_map"])
-        added = '#[no_mangle]\npub extern "C" fn clearance_more(x: &mut usize) -> u8\n    ensures few { λ r. ⌜ r ≡ 0 ⌝ }\n{\n    0\n}\n'
-        self.assertEqual((unlike(SOURCE + added), unfixed(SOURCE + added)), (["clearance_more"], ["clearance_more x"]))
+        mark = '#[unsafe(no_mangle)]\npub extern "C" fn clearance_map('
+        self.assertEqual(unlike(self.planted(mark, "fn clearance_map(", SOURCES[1])), ["clearance_map"])
+        self.assertEqual(unlike(self.planted("pub fn clearance_map(", "fn clearance_map(", SOURCES[0])), ["clearance_map"])
+        body = "fn clearance_more(x: &mut usize) -> u8\n    ensures few { result ≡ 0 }\n{\n    0\n}\n"
+        for source, head in zip(SOURCES, ("pub ", '#[unsafe(no_mangle)]\npub extern "C" ')):
+            added = source + head + body
+            self.assertEqual((unlike(added), unfixed(added)), (["clearance_more"], ["clearance_more x"]))
 
     def test_lent_memory_without_a_clause(self):
-        for name, clause, line in self.clause_lines():
-            left = re.search(r"λ _\. ⌜ now \((\w+) \.exit\)", line)
+        for source, name, clause, line in self.clause_lines():
+            left = re.search(r"\{ (\w+)\.new ≡ ", line)
             with self.subTest(name, clause=clause):
-                self.assertEqual(unfixed(self.planted(line, "")), [f"{name} {left[1]}"] if left else [])
+                self.assertEqual(unfixed(self.planted(line, "", source)), [f"{name} {left[1]}"] if left else [])
 
     def test_rows_that_say_something_else(self):
         rows = ROWS.read_text(encoding="utf-8")
-        for old, new in {"pos (point j x y store .edge)": "pos 7", ".nodes) old": ".nodes) 0", "getD numbers 2": "getD numbers 1"}.items():
+        for old, new in {"pos (point j x y store).edge": "pos 7", ".nodes old": ".nodes 0", "get_or numbers 2": "get_or numbers 1"}.items():
             with self.subTest(old):
                 self.assertNotEqual(defined(self.planted(old, new, rows)), LEFT)
 

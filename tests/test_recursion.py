@@ -1,4 +1,4 @@
-"""A cell's answer from a tree without recursion. The language asks for one proof of every cycle of calls, in a folder of proofs/ whose name begins
+"""A cell's answer from a tree without recursion. The language asks for a measure of every cycle of calls, in a folder of proofs/ whose name begins
 with '+'. What draws the plate has one, the quartering of the plate; no crate that it stands on has any, so none on the way from a tree in the store
 to a cell's answer, by quarters or by rows."""
 
@@ -14,7 +14,7 @@ DRAWS, QUARTERS = "drawing", "crates/drawing/proofs/+draw"
 def stands_on(name, top=TOP):
     """The crates that a crate stands on by crates.txt, without itself."""
     lines = [line for line in (top / "crates.txt").read_text(encoding="utf-8").splitlines() if ":" in line and not line.startswith("#")]
-    listed = {crate: named.split() for crate, named in (line.split(":") for line in lines)}
+    listed = {head.split()[0]: named.split() for head, named in (line.split(":") for line in lines)}
     found, pending = set(), listed[name]
     while pending:
         crate, *pending = pending

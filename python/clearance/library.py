@@ -50,6 +50,11 @@ ARGUMENTS = {
     "clearance_points": (_int32s, _size, _int32s, _size, _int32s, _size, _int64s, _size),
 }
 
+# Of functions that nothing here calls yet, so that a library without them serves too.
+FURTHER = {
+    "clearance_clamps": (_int32s, _size, _bytes, _size, _sizes, _sizes),
+}
+
 
 class LibraryMissing(console.Ended):
     """No library was found, or one that was built for other rows, nodes or functions."""
@@ -105,6 +110,10 @@ def library():
         for name, arguments in ARGUMENTS.items():
             function = getattr(loaded, name)
             function.argtypes, function.restype = arguments, ctypes.c_uint8
+        for name, arguments in FURTHER.items():
+            if hasattr(loaded, name):
+                function = getattr(loaded, name)
+                function.argtypes, function.restype = arguments, ctypes.c_uint8
     except AttributeError as error:
         raise LibraryMissing(f"the library {loaded._name} lacks a function: {error}") from error
     return loaded

@@ -45,11 +45,11 @@ lowest x. Each smallest cell has one letter. What the letters say is proved of e
 included, and of every point of the outline:
 """
 LETTERS = {
-    maps.CLEAR: "Clear: every point of the cell is at least the reach away from every point of the outline (theorem clear-byte).",
-    maps.INSIDE: "In reach: every point of the cell has a point of the outline that is closer than the reach (theorem inside-byte).",
+    maps.CLEAR: "Clear: every point of the cell is at least the reach away from every point of the outline (theorem clear_byte).",
+    maps.INSIDE: "In reach: every point of the cell has a point of the outline that is closer than the reach (theorem inside_byte).",
     maps.DOUBTFUL: """\
 Doubtful: neither is claimed. With E = 3 grains + 1.5 cell sides, no point of the outline is closer to a point of the cell than
-the reach less E, and each point of the cell has a point of the outline at the reach and E or closer (theorem doubtful-byte).""",
+the reach less E, and each point of the cell has a point of the outline at the reach and E or closer (theorem doubtful_byte).""",
 }
 STOCK = "C does not tell part from stock. A cell that is the reach away exactly may be C: the jet does not mark metal at its reach."
 SAMPLE = """\
@@ -96,7 +96,7 @@ COMMAND_FILES = {
 }
 COMMAND_REFUSED = """\
 A message on standard error names its place as FILE:LINE:COLUMN, lines and columns counted from 1, where there is one. A sheet
-is refused with the lowest number that applies (theorems read-lowest and map-lowest). 7, 8 and 9 come from calls of the
+is refused with the lowest number that applies (theorems read_lowest and map_lowest). 7, 8 and 9 come from calls of the
 library alone, and 6 only where less store is lent than the sheet's trees need.
 """
 PROGRAM = f"""\
@@ -107,11 +107,11 @@ No more than {sheets.SHEET_LIMIT + 1:,} bytes are read, one more than a sheet ma
 {library.PROGRAM_STORE:,} numbers of store to the trees that enclose the outline; a sheet that needs more is refused with 6 (store).
 `clearance map` lends as many as any job needs, and `clearance explain` says why a sheet is refused.
 
-The program needs a stack of 256 KB (measured: about 240).
+The program needs a stack of 256 KB (measured with the Rattle kit 5b: about 240).
 """
 PROGRAM_REFUSED = """\
 In place of a map the program writes `(refused N)`, where N is the lowest number that applies. It never writes
-7 (theorem never-space); 8 and 9 come from calls of the library alone.
+7 (theorem never_space); 8 and 9 come from calls of the library alone.
 """
 PROGRAM_STATUS = "The status is 0, also where a sheet is refused, and where reading or writing fails: the program has no other."
 PROGRAM_FAILED = """\

@@ -32,7 +32,7 @@ class Maps(unittest.TestCase):
 
     def test_beside_the_program(self):
         if not CLEARMAP.exists():
-            self.skipTest("clearmap is not built: rt check clearmap")
+            self.skipTest("clearmap is not built: tools/prove build clearmap")
         for name, sheet, _ in [*stored(MAPS), *stored(SHEETS)]:
             with self.subTest(name):
                 self.assertEqual(command("map", *PROGRAM, "-", stdin=sheet)[1], run(sheet).stdout)

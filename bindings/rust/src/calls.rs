@@ -132,11 +132,11 @@ pub fn point(job: &Job, x: i32, y: i32, store: &[i32]) -> Result<Nearest, Refusa
 
 /// Bounds the distances of 1 to [`SPOTS_MOST`] points from the outline, x and y of
 /// each. They are those of [`point`], in the order of the spots (theorem
-/// `points-alone` of the C function), but the code compares the store once for all
+/// `points_alone` of the C function), but the code compares the store once for all
 /// of them. Of 2, 3, 4, 9, 5, 6 and 8, in this order, it
 /// refuses with the first that applies: a coordinate out of range comes before too
 /// many spots. It has room of its own for the answers, enough for every row (theorem
-/// `reply-room`), so 7 is not among them.
+/// `reply_room`), so 7 is not among them.
 ///
 /// ```
 /// use clearance::{map, point, points, read, Refusal};
@@ -185,7 +185,7 @@ pub fn points(job: &Job, spots: &[[i32; 2]], store: &[i32]) -> Result<Vec<Neares
 /// exactly if every cell under every clamp is C. If the map is the one that [`map`]
 /// drew for this job, a go means that no point under a clamp, over all fractions, is
 /// nearer to the outline than the reach; a point may be at the reach (theorem
-/// `drawn-go`). Whether the map is this job's is not checked, and bytes behind its
+/// `drawn_go`). Whether the map is this job's is not checked, and bytes behind its
 /// cells are not looked at. Refuses with 2, 3, 4, 7, 10 or 11.
 ///
 /// ```

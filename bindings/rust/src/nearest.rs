@@ -12,7 +12,7 @@ pub struct Nearest {
     /// Some point of the outline is within this.
     pub hi: i64,
     /// The first edge, in the order of the job and from 0, one of whose leaves
-    /// gives `hi` (theorem `point-told` of the C function).
+    /// gives `hi` (theorem `point_told` of the C function).
     pub edge: usize,
 }
 

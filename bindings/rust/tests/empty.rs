@@ -1,8 +1,7 @@
 //! Calls that lend nothing: empty slices, which in Rust are never null, and null
 //! pointers with the length 0, which the C functions take for empty slices.
 
-use clearance::{clamps, ffi, map, point, points, read, write};
-use clearance::{Clamp, Job, Refusal, CLAMPS_NUMBERS, JOB_NUMBERS};
+use clearance::{ffi, map, point, points, read, write, Job, Refusal, JOB_NUMBERS};
 use std::ptr;
 
 const SHEET: &[u8] =
@@ -36,18 +35,11 @@ fn an_empty_slice_is_never_null() {
 #[test]
 fn safe_calls_take_empty_slices() {
     let job = job();
-    let clamp = Clamp {
-        column: 0,
-        row: 0,
-        columns: 1,
-        rows: 1,
-    };
     for (mut bytes, mut store) in empty_slices().into_iter().zip(empty_slices()) {
         assert_eq!(read(&bytes), Err(Refusal::Form));
         assert_eq!(write(&job, &mut bytes), Err(Refusal::Space));
         assert_eq!(map(&job, &mut store, &mut [0; 4]), Err(Refusal::Store));
         assert_eq!(map(&job, &mut [0; 11], &mut bytes), Err(Refusal::Space));
-        assert_eq!(clamps(&job, &bytes, &[clamp; 4]), Err(Refusal::Space));
         assert_eq!(point(&job, 3, 4, &store), Err(Refusal::Store));
         assert_eq!(points(&job, &[[3, 4]], &store), Err(Refusal::Store));
     }
@@ -64,8 +56,6 @@ fn null_with_the_length_0_is_an_empty_slice() {
     let (mut count, mut nearest) = (7, [7; 3]);
     let (spot, trees) = ([3, 4], [0; 11]);
     let (many, reply) = (ffi::clearance_points, ptr::null_mut::<i64>());
-    let (clamps, mut placed) = ([0; CLAMPS_NUMBERS], [7; 4]);
-    let (clamps, four) = (clamps.as_ptr(), placed.as_mut_ptr());
     // SAFETY: a null pointer has the length 0, and the others are whole.
     unsafe {
         assert_eq!(ffi::clearance_read(ptr::null(), 0, &raw mut row), 1);
@@ -77,7 +67,6 @@ fn null_with_the_length_0_is_an_empty_slice() {
             2
         );
         assert_eq!(many(none, 0, none, 0, none, 0, reply, 0), 2);
-        assert_eq!(ffi::clearance_clamps(none, 0, out, 0, clamps, four), 2);
 
         assert_eq!(
             ffi::clearance_read(SHEET.as_ptr(), SHEET.len(), &raw mut row),
@@ -102,10 +91,6 @@ fn null_with_the_length_0_is_an_empty_slice() {
         assert_eq!(many(job, row.len(), spot, 2, none, 0, three, 3), 6);
         assert_eq!(many(job, row.len(), spot, 2, trees, 11, reply, 0), 7);
         assert_eq!(many(job, row.len(), none, 0, none, 0, reply, 0), 9);
-        assert_eq!(
-            ffi::clearance_clamps(job, row.len(), out, 0, clamps, four),
-            7
-        );
     }
-    assert_eq!((count, nearest, placed), (7, [7; 3], [7; 4]));
+    assert_eq!((count, nearest), (7, [7; 3]));
 }
