@@ -345,10 +345,10 @@ uint8_t clearance_points(const int32_t *job, size_t job_len,
  * clamp with another letter and its first such cell. A stop is no refusal: the
  * call is accepted, and `placed` tells a stop from a go.
  *
- * If the map is the one that clearance_map drew for this job, a go means that no
- * point under a clamp, over all fractions, is nearer to the outline than the
- * reach; a point may be at the reach (theorems go_true and drawn_go; with a sheet
- * that is read, drawn and asked about, clamps_told). Whether the map is this job's
+ * If the map is the one that clearance_map drew for this job, a go means that
+ * whatever lies under a clamp, over all fractions, keeps at least the reach from
+ * the outline (theorems go_true and drawn_go; with a sheet that is read, drawn and
+ * asked about, clamps_told). Whether the map is this job's
  * is not checked.
  *
  * job, job_len      any numbers

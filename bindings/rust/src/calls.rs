@@ -183,8 +183,8 @@ pub fn points(job: &Job, spots: &[[i32; 2]], store: &[i32]) -> Result<Vec<Neares
 
 /// Looks at the cells of a map under the four clamps of table four: [`Placed::Go`]
 /// exactly if every cell under every clamp is C. If the map is the one that [`map`]
-/// drew for this job, a go means that no point under a clamp, over all fractions, is
-/// nearer to the outline than the reach; a point may be at the reach (theorem
+/// drew for this job, a go means that whatever lies under a clamp, over all fractions,
+/// keeps at least the reach from the outline (theorem
 /// `drawn_go`). Whether the map is this job's is not checked, and bytes behind its
 /// cells are not looked at. Refuses with 2, 3, 4, 7, 10 or 11.
 ///

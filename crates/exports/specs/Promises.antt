@@ -65,7 +65,7 @@ ReadMapPoint = (sheet : List ℕ) (row store : List ℤ) (cells : List ℕ) → 
 
 -- ---- read, map, clamps
 -- of a sheet that was read and the row then drawn, both accepted: an accepted call with the map that drawing left, whose first number is then 1, means
--- that no point under a clamp is nearer to the outline of that sheet's job than its reach
+-- that whatever lies under a clamp keeps at least the reach of that sheet's job from its outline
 abbrev pub ClampsTold : Type 0
 ClampsTold =
     (sheet : List ℕ) (row store : List ℤ) (cells cs old : List ℕ) → (read sheet).refusal ≡ 0 → (map (job_from (read_leaves sheet row)) store cells).refusal ≡ 0

@@ -56,7 +56,7 @@ pub record Under (j : Job) (c : Clamp) (Q : Point) : Type 0 where
   pub column : Across j.x c.column c.columns (2 ^ cell_log j) Q.x
   pub row : Across j.y c.row c.rows (2 ^ cell_log j) Q.y
 
--- what a go means: no point under a clamp is nearer to the outline than the reach
+-- what a go means: whatever lies under a clamp keeps at least the reach from the outline
 abbrev pub GoMeans : Job → List ℕ → Type 0
 GoMeans j cs = (m : ℕ) → m < 4 → Clear (Outline (outline j)) (Under j (clamp_at cs m)) j.reach
 

@@ -20,7 +20,7 @@ leading f (suc k) i = onward (f i) (leading f k (suc i))
 abbrev pub every : (ℕ → Bool) → ℕ → ℕ → Bool
 every f k i = eqb (leading f k i) k
 
--- ---- a clamp: its first column and row, from 0, and its counts of columns and rows; four of them are 16 numbers
+-- ---- a clamp: where it begins, by column and row from 0, and how many it spans of each; four of them are 16 numbers
 abbrev pub clamp_at : List ℕ → ℕ → Clamp
 clamp_at cs k = record { column = get_or cs (4 * k) 0; row = get_or cs (4 * k + 1) 0; columns = get_or cs (4 * k + 2) 0; rows = get_or cs (4 * k + 3) 0 }
 

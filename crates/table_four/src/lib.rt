@@ -232,7 +232,7 @@ fn named(cells: &[u8], n: usize, clamp: Clamp, k: usize) -> Placed
 
 // Whether every cell of the job's map under every clamp is C: go, or the first clamp with a cell that is not, and its lowest, then leftmost such
 // cell; or the refusal 2, 3, 4, 7, 10 or 11, the lowest that applies (`PlaceLowest`). Where demand 3 holds of the map, as it does of what the
-// library draws for the job, a go means that no point under a clamp is nearer to the outline than the reach.
+// library draws for the job, a go means that whatever lies under a clamp keeps at least the reach from the outline.
 pub fn place(job: Job, cells: &[u8], clamps: [usize; 16]) -> Placed
     ensures answer { result ≡ table.place job cells.now clamps }
     ensures go { result.go ≡ true → MapHolds job cells.now → GoMeans job clamps }
