@@ -1,7 +1,7 @@
 -- Figures of a job by itself: its own refusal, and the cells a side of its map. Everything is computed. Assumes nothing.
 use Rattle.std.specs.Prelude.{◌≡◌, refl, List, [], ◌∷◌, ℤ, pos}
 use Rattle.model.specs.declared.Job.{Job}
-use Rattle.model.specs.declared.Grid.{Grid}
+use Rattle.model.specs.Answers.{Grid}
 use Rattle.model.specs.Refusals.{accepted}
 use Rattle.model.specs.Jobs.{between, coordinate, is_zero, placed, is_one, spare, kind, marked, counted, ranged, celled, judge}
 use Rattle.model.specs.Entries.{grid}

@@ -30,6 +30,7 @@ pub mod Exact
 pub mod Distance
 pub mod Lookup
 -- ---- what each public entry answers and leaves, and the cases in which it refuses
+pub mod Answers
 pub mod Entries
 pub mod Cases
 -- ---- what the program prints

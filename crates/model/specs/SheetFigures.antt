@@ -3,7 +3,7 @@
 use Rattle.std.specs.Prelude.{◌≡◌, refl, List, [], ◌∷◌, ◌++◌, ℕ, zero, suc, ℤ, pos, negsuc, get_or, replicate}
 use Prim.Native.String.{String}
 use Rattle.model.specs.declared.Job.{Job}
-use Rattle.model.specs.declared.Read.{Read}
+use Rattle.model.specs.Answers.{Read}
 use Rattle.model.specs.Jobs.{between, coordinate, is_zero, placed, is_one, spare, kind, marked, counted, ranged, celled, judge}
 use Rattle.model.specs.Refusals.{accepted}
 use Rattle.model.specs.Bytes.{got, none, bytes, digit}
