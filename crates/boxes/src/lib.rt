@@ -2,16 +2,16 @@
 #![tactic(auto)]
 
 ghost use Rattle.std.specs.Prelude.{◌≡◌, ◌≤◌, ◌<◌, nat_abs, length};
-ghost use Rattle.model.specs.Boxes.{span_of, lesser, greater, spanning};
+ghost use Rattle.model.specs.Boxes.{span_of, upright, spanning, around};
 ghost use Rattle.model.specs.Store.{width};
-ghost use Rattle.model.specs.Explore.{at_least0, squares};
+ghost use Rattle.model.specs.Explore.{squares};
 ghost use Rattle.model.specs.Distance.{near², far²};
-ghost use Rattle.ranges.specs.Sizes.{SideSized, SpanSized, BoxSized};
+ghost use Rattle.ranges.specs.Sizes.{SideSized, Sized, SpanSized, BoxSized};
 ghost use Rattle.nodes.specs.Places.{span_in, box_in};
-ghost use Rattle.nodes.specs.Structs.{side, span};
+ghost use Rattle.nodes.specs.Structs.{side, as_strip, span, as_box};
 ghost use Rattle.boxes.specs.Ranges.{point_at, RangeOf};
 
-use nodes::{Extent, Limits, X, Y};
+use nodes::{Extent, Limits, Strip, Upright, X, Y};
 
 // How near and how far the points of an upright box are in one coordinate.
 #[derive(Clone, Copy)]
@@ -27,69 +27,62 @@ pub struct Bounds {
     pub hi: i64,
 }
 
-// ---- made, in one coordinate
+// ---- made
 
-// a strip's
-pub fn upright(v: Extent) -> Limits
+// a strip's, in one coordinate
+fn limits_of(v: Extent) -> Limits
     requires sizes { SideSized (side v) }
     ensures span { span result ≡ span_of (side v) }
 {
-    let centre = v.centre;
-    let reach = rounding::abs(v.axis) + v.half;
-    let least = (centre - reach) as i32;
-    let greatest = (centre + reach) as i32;
+    let reach = v.axis.abs() + v.half;
     Limits {
-        least: least,
-        greatest: greatest,
+        least: (v.centre - reach) as i32,
+        greatest: (v.centre + reach) as i32,
     }
 }
 
-fn lesser_of(a: i32, b: i32) -> i32
-    ensures least { result ≡ lesser a b }
+// a strip's
+pub fn upright(strip: Strip) -> Upright
+    requires sizes { Sized (as_strip strip) }
+    ensures upright { as_box result ≡ upright (as_strip strip) }
 {
-    if b < a { b } else { a }
+    Upright {
+        x: limits_of(strip.x),
+        y: limits_of(strip.y),
+    }
 }
 
-fn greater_of(a: i32, b: i32) -> i32
-    ensures greatest { result ≡ greater a b }
+// the smallest around two, in one coordinate
+fn spanning(a: Limits, b: Limits) -> Limits
+    ensures span { span result ≡ spanning (span a) (span b) }
 {
-    if a < b { b } else { a }
+    Limits {
+        least: a.least.min(b.least),
+        greatest: a.greatest.max(b.greatest),
+    }
 }
 
 // the smallest around two
-pub fn around(a: Limits, b: Limits) -> Limits
-    ensures span { span result ≡ spanning (span a) (span b) }
+pub fn around(a: Upright, b: Upright) -> Upright
+    ensures around { as_box result ≡ around (as_box a) (as_box b) }
 {
-    let least = lesser_of(a.least, b.least);
-    let greatest = greater_of(a.greatest, b.greatest);
-    Limits {
-        least: least,
-        greatest: greatest,
+    Upright {
+        x: spanning(a.x, b.x),
+        y: spanning(a.y, b.y),
     }
 }
 
 // ---- asked, of a point in fine units
 
-fn at_least_0(z: i32) -> i32
-    ensures clamped { result ≡ at_least0 z }
+// in one coordinate, of the point c and a box
+fn range_of(limits: Limits, c: i32) -> Range
+    requires sizes { SpanSized (span limits) × (nat_abs c ≤ 16000000) }
+    ensures range { RangeOf c (span limits) result }
 {
-    if z < 0 { 0 } else { z }
-}
-
-// in coordinate i, of the point c and the first node of part
-fn range_of(part: &[i32], i: usize, c: i32) -> Range
-    requires sizes { (i < 2) × (width ≤ length part.now) × SpanSized (span_in part.now i) × (nat_abs c ≤ 16000000) }
-    ensures range { RangeOf c (span_in part.now i) result }
-{
-    let limits = nodes::limits_at(part, i);
-    let least = limits.least;
-    let greatest = limits.greatest;
-    let off = greater_of(least - c, c - greatest);
-    let near = at_least_0(off);
-    let far = greater_of(c - least, greatest - c);
+    let Limits { least, greatest } = limits;
     Range {
-        near: near,
-        far: far,
+        near: (least - c).max(c - greatest).max(0),
+        far: (c - least).max(greatest - c),
     }
 }
 
@@ -106,9 +99,10 @@ pub fn bounds_at(part: &[i32], x: i32, y: i32) -> Bounds
     ensures low { result.lo ≡ near² (point_at x y) (box_in part.now) }
     ensures high { result.hi ≡ far² (point_at x y) (box_in part.now) }
 {
-    let h = range_of(part, X, x);
-    let v = range_of(part, Y, y);
-    let lo = sum_of_squares(h.near as i64, v.near as i64);
-    let hi = sum_of_squares(h.far as i64, v.far as i64);
-    Bounds { lo: lo, hi: hi }
+    let h = range_of(nodes::limits_at(part, X), x);
+    let v = range_of(nodes::limits_at(part, Y), y);
+    Bounds {
+        lo: sum_of_squares(i64::from(h.near), i64::from(v.near)),
+        hi: sum_of_squares(i64::from(h.far), i64::from(v.far)),
+    }
 }

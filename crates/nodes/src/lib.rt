@@ -6,7 +6,7 @@ ghost use Rattle.std.specs.Int.Signed.{non_neg};
 ghost use Rattle.model.specs.Store.{width, numbers};
 ghost use Rattle.ranges.specs.Sizes.{SideSized};
 ghost use Rattle.nodes.specs.Places.{side_in, with_side, span_in, with_span};
-ghost use Rattle.nodes.specs.Structs.{side, strip_of, span, box_by};
+ghost use Rattle.nodes.specs.Structs.{side, as_strip, span, as_box};
 
 // the numbers of a node
 pub const WIDTH: usize = 11;
@@ -32,18 +32,31 @@ pub const LEAST: usize = 7;
 pub const GREATEST: usize = 9;
 
 // A strip in one coordinate: its centre, its axis and half its box.
-#[derive(Clone, Copy)]
+#[derive(Clone, Copy, PartialEq, Eq)]
 pub struct Extent {
     pub centre: i64,
     pub axis: i64,
     pub half: i64,
 }
 
+#[derive(Clone, Copy, PartialEq, Eq)]
+pub struct Strip {
+    pub x: Extent,
+    pub y: Extent,
+}
+
 // A box in one coordinate. Its numbers are as the store has them, of 32 bits: of two stored boxes the lesser and the greater are stored ones too.
-#[derive(Clone, Copy)]
+#[derive(Clone, Copy, PartialEq, Eq)]
 pub struct Limits {
     pub least: i32,
     pub greatest: i32,
+}
+
+// A box whose sides are along x and y.
+#[derive(Clone, Copy, PartialEq, Eq)]
+pub struct Upright {
+    pub x: Limits,
+    pub y: Limits,
 }
 
 // ---- read
@@ -52,10 +65,10 @@ pub fn wide_at(s: &[i32], i: usize) -> i64
     requires within { i < length s.now }
     ensures element { result ≡ get_or s.now i (pos 0) }
 {
-    s[i] as i64
+    i64::from(s[i])
 }
 
-// a stored count
+// A stored count. `as`, since it is proved not to be negative.
 pub fn count_at(s: &[i32], i: usize) -> usize
     requires within { i < length s.now }
     requires sign { T (non_neg (get_or s.now i (pos 0))) }
@@ -69,13 +82,10 @@ pub fn extent_at(s: &[i32], i: usize) -> Extent
     requires within { (i < 2) × (width ≤ length s.now) }
     ensures side { side result ≡ side_in s.now i }
 {
-    let centre = wide_at(s, i + CENTRE);
-    let axis = wide_at(s, i + AXIS);
-    let half = wide_at(s, i + BOX);
     Extent {
-        centre: centre,
-        axis: axis,
-        half: half,
+        centre: wide_at(s, i + CENTRE),
+        axis: wide_at(s, i + AXIS),
+        half: wide_at(s, i + BOX),
     }
 }
 
@@ -84,11 +94,9 @@ pub fn limits_at(s: &[i32], i: usize) -> Limits
     requires within { (i < 2) × (width ≤ length s.now) }
     ensures span { span result ≡ span_in s.now i }
 {
-    let least = s[i + LEAST];
-    let greatest = s[i + GREATEST];
     Limits {
-        least: least,
-        greatest: greatest,
+        least: s[i + LEAST],
+        greatest: s[i + GREATEST],
     }
 }
 
@@ -109,20 +117,18 @@ fn put_span(s: &mut [i32], i: usize, v: Limits)
     requires within { (i < 2) × (width ≤ length s.old) }
     ensures written { s.new ≡ with_span s.old i (span v) }
 {
-    let least = v.least;
-    let greatest = v.greatest;
-    s[i + LEAST] = least;
-    s[i + GREATEST] = greatest;
+    s[i + LEAST] = v.least;
+    s[i + GREATEST] = v.greatest;
 }
 
-// a node's numbers at the front of s, with its box in x and in y
-pub fn put(s: &mut [i32], x: Extent, y: Extent, nodes: usize, h: Limits, v: Limits)
-    requires sizes { (width ≤ length s.old) × SideSized (side x) × SideSized (side y) × (nodes < 4096) }
-    ensures written { s.new ≡ numbers (strip_of x y) nodes (box_by h v) (drop width s.old) }
+// a node's numbers at the front of s, with its box
+pub fn put(s: &mut [i32], strip: Strip, nodes: usize, upright: Upright)
+    requires sizes { (width ≤ length s.old) × SideSized (side strip.x) × SideSized (side strip.y) × (nodes < 4096) }
+    ensures written { s.new ≡ numbers (as_strip strip) nodes (as_box upright) (drop width s.old) }
 {
-    put_side(s, X, x);
-    put_side(s, Y, y);
+    put_side(s, X, strip.x);
+    put_side(s, Y, strip.y);
     s[COUNT] = nodes as i32;
-    put_span(s, X, h);
-    put_span(s, Y, v);
+    put_span(s, X, upright.x);
+    put_span(s, Y, upright.y);
 }

@@ -1,20 +1,19 @@
 -- What the builder leaves after both halves. Assumes nothing.
-use mathlib.Core.Path.{◌≡◌, sym, ap, ap₂, ◌∙◌, subst}
+use mathlib.Core.Path.{◌≡◌, sym, ap, ap₂, ◌∙◌}
 use mathlib.Core.List.{List, ◌++◌, append_assoc}
 use Prim.Native.Nat.{ℕ, suc, ◌+◌, ◌*◌, ◌-◌, ◌≤◌}
 use native.Mathlib.Omega.{arith}
 use lib.IntN.{ℤ}
-use lib.ListN.{length, take, drop, length-append}
+use lib.ListN.{length, take, drop, length-append, length-drop}
 use lib.Seq.{take_at, drop_at, drop-drop, length-take-le}
 use borrow.Rule.Slice.PartMut.{put_mid, mid_of}
 use Rattle.sequences.specs.Parts.{tail_mid, tail_put}
 use Rattle.model.specs.Strips.{Strip}
 use Rattle.model.specs.Trees.{Tree}
-use Rattle.model.specs.Boxes.{Span, Box, spanning, around, box_of}
+use Rattle.model.specs.Boxes.{Box, around, box_of}
 use Rattle.model.specs.Store.{width, size, numbers, flatten}
-use Rattle.nodes.specs.Places.{span_in, box_in, box_eq}
+use Rattle.nodes.specs.Places.{box_in}
 use Rattle.subtrees.specs.Preorder.{length_flatten, Begins, begins_box}
-use Rattle.subtrees.specs.Subtrees.{subtree, Walkable}
 
 two' : (p a b t : List ℤ) (i j : ℕ) → length p ≡ width → length (p ++ a) ≡ i →
     drop width (take i (p ++ (a ++ t)) ++ (b ++ drop j (drop i (p ++ (a ++ t))))) ≡ (a ++ b) ++ drop j t
@@ -36,8 +35,21 @@ two s a b m n ha h =
 abbrev pub lent : List ℤ → List ℤ → List ℤ
 lent s u = put_mid width (length s - width) s u
 
+kept_length : (p : ℕ) (s u : List ℤ) → p ≤ length s → length u ≡ length (mid_of p (length s - p) s) → length (put_mid p (length s - p) s u) ≡ length s
+kept_length p s u h e =
+    let z : length (take p s) ≡ p = length-take-le p s h in
+    let k : length u ≡ length s - p = rw (tail_mid p s, length-drop) at e in
+    rw (tail_put p s u h) (omega (arith, length-append (take p s) u))
+
+-- it is as long
+pub lent_length : (s u : List ℤ) → width ≤ length s → length u ≡ length (mid_of width (length s - width) s) → length (lent s u) ≡ length s
+lent_length s u h e = kept_length width s u h e
+
 abbrev pub lent_both : List ℤ → List ℤ → ℕ → List ℤ → List ℤ
 lent_both s u m v = put_mid (width + width * m) (length (lent s u) - (width + width * m)) (lent s u) v
+
+pub both_length : (s u v : List ℤ) (m : ℕ) → length (lent s u) ≡ length s → width + width * m ≤ length s → length v ≡ length (mid_of (width + width * m) (length (lent s u) - (width + width * m)) (lent s u)) → length (lent_both s u m v) ≡ length s
+both_length s u v m n h e = kept_length (width + width * m) (lent s u) v (omega arith) e ∙ n
 
 -- the same with the parts as they come back from the two calls
 pub both : (s u v : List ℤ) (l r : Tree) (m : ℕ) → m ≡ size l → width + width * size l + width * size r ≤ length s →
@@ -57,17 +69,6 @@ pub put_eq : {s u : Strip} {b c : Box} (n : ℕ) (l : List ℤ) → s ≡ u → 
 put_eq n l e f = rw (e, f)
 
 -- a box around the two that are stored behind a node
-pub around_eq : (l : List ℤ) (a b : Tree) (p : ℕ) {x y : Span} → Begins a (drop width l) × Begins b (drop (width + width * size a) l) → p ≡ width + width * size a
-    → x ≡ spanning (span_in (drop width l) 0) (span_in (drop p l) 0) → y ≡ spanning (span_in (drop width l) 1) (span_in (drop p l) 1) → ◌≡◌ {A = Box} (record { x = x; y = y }) (around (box_of a) (box_of b))
-around_eq l a b p w i e f = box_eq e f ∙ ap (λ (p : ℕ). around (box_in (drop width l)) (box_in (drop p l))) i ∙ ap₂ around (begins_box a (drop width l) w.0) (begins_box b (drop (width + width * size a) l) w.1)
-
--- ---- a piece by its depth d and its place k, where the code names them e and i
-module _ (T : ℤ) (s : ℕ → ℕ → Strip) (d k : ℕ) where
-  pub same_walk : {e i n : ℕ} → Walkable T s d k n → e ≡ d → i ≡ k → Walkable T s e i n
-  same_walk {i = i} {n} w p q = subst (λ e. Walkable T s e i n) (sym p) (subst (λ i. Walkable T s d i n) (sym q) w)
-
-  abbrev pub Built : ℕ → ℕ → ℕ → List ℤ → List ℤ → Type 0
-  Built e i r new old = (r ≡ size (subtree T s e i)) × (new ≡ flatten (subtree T s e i) ++ drop (width * size (subtree T s e i)) old)
-
-  pub same_built : (e i r : ℕ) (new old : List ℤ) → Built e i r new old → e ≡ d → i ≡ k → Built d k r new old
-  same_built e i r new old b p q = subst (λ i. Built d i r new old) q (subst (λ e. Built e i r new old) p b)
+pub around_eq : (l : List ℤ) (a b : Tree) (p : ℕ) {x : Box} → Begins a (drop width l) × Begins b (drop (width + width * size a) l) → p ≡ width + width * size a
+    → x ≡ around (box_in (drop width l)) (box_in (drop p l)) → x ≡ around (box_of a) (box_of b)
+around_eq l a b p w i e = e ∙ ap (λ (p : ℕ). around (box_in (drop width l)) (box_in (drop p l))) i ∙ ap₂ around (begins_box a (drop width l) w.0) (begins_box b (drop (width + width * size a) l) w.1)

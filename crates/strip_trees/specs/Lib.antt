@@ -1,2 +1,3 @@
--- What the comparisons answer.
+-- What the walks answer.
 pub mod Comparisons
+pub mod Counted

@@ -1,4 +1,3 @@
 -- Laws that belong to no one function.
-pub mod Results
-pub mod Coefficients
+pub mod Forms
 pub mod Roundings

@@ -1,0 +1,2 @@
+-- Laws of the code's quotients.
+pub mod Nearest

@@ -1,0 +1,2 @@
+-- What the machine's absolute value is in the model.
+pub mod Absolutes
