@@ -1,14 +1,8 @@
 -- The slanted test: when a view needs it, the room, and where it does not say away. Assumes nothing.
-use mathlib.Core.Path.{◌≡◌, refl, sym, ap, ◌∙◌, subst}
-use mathlib.Core.Bool.{Bool, true, false, not, ◌&&◌, ◌||◌}
-use Prim.Native.Nat.{ℕ, zero, suc, ◌+◌, ◌*◌, ◌<◌}
-use native.Mathlib.Omega.{arith}
-use lib.Dec.{T}
-use lib.IntN.{ℤ, pos, negsuc, nat_abs, ◌-ℤ◌, ◌*ℤ◌}
-use lib.Signed.{le_z, non_neg}
-use mir.Syntax.{w64}
-use mir.Val.{of_z}
-use borrow.Author.Tests.{eq-eqb, ne_eqb}
+use Rattle.std.specs.Prelude.{◌≡◌, Bool, true, false, not, ◌&&◌, ◌||◌, ℕ, zero, suc, ◌+◌, ◌*◌, ◌<◌, T, ℤ, pos, negsuc, nat_abs, ◌-ℤ◌, ◌*ℤ◌}
+use Rattle.std.proofs.Common.{refl, sym, ap, ◌∙◌, subst, arith, eq-eqb, of_z, w64}
+use Rattle.std.proofs.lemmas.Bool.{ne_eqb}
+use Rattle.std.specs.Int.Signed.{le_z, non_neg}
 use Rattle.integers.specs.Signed.{Made, nonneg}
 use Rattle.integers.specs.Absolute.{absℤ}
 use Rattle.ranges.specs.Bits.{is_zero64}
@@ -20,7 +14,7 @@ use Rattle.row_laws.specs.Slanted.{shared, slanted_is}
 use Rattle.row_laws.specs.Rows.{not_away}
 use Rattle.columns.specs.declared.Frame.{Frame}
 use Rattle.columns.specs.declared.View.{View}
-use Rattle.columns.specs.Views.{across_at, away_in, test_at}
+use Rattle.columns.specs.Views.{across_at, away_in, near_at}
 use Rattle.columns.specs.Limits.{FrameSized, ViewSized, RoomFor}
 
 -- ---- numbers
@@ -99,9 +93,9 @@ module _ (f : Frame) (s : FrameSized f) (v : View) (t : ViewSized v) (i j : ℕ)
   abbrev y : ℤ
   y = off f.q v.y (pos j)
 
-  both_tests : not (away_in f v i j) ≡ (across_at f v y i && test_at false f v y i)
+  both_tests : not (away_in f v i j) ≡ (across_at f v y i && near_at f v y i)
   both_tests = rw (t.ex_is, t.ey_is) (not_away x y v.p v.q v.a v.b f.reach (nonneg f.reach s.reach_sized.r_nonneg))
 
   -- of the columns that the slanted test leaves of a, those that the other leaves
-  pub kept_is : {r m : Bool} (a : Bool) → m ≡ (a && across_at f v y i) → r ≡ (m && test_at false f v y i) → r ≡ (a && not (away_in f v i j))
-  kept_is a e g = g ∙ ap (λ b. b && test_at false f v y i) e ∙ and_assoc a (across_at f v y i) (test_at false f v y i) ∙ ap (λ b. a && b) (sym both_tests)
+  pub kept_is : {r m : Bool} (a : Bool) → m ≡ (a && across_at f v y i) → r ≡ (m && near_at f v y i) → r ≡ (a && not (away_in f v i j))
+  kept_is a e g = g ∙ ap (λ b. b && near_at f v y i) e ∙ and_assoc a (across_at f v y i) (near_at f v y i) ∙ ap (λ b. a && b) (sym both_tests)

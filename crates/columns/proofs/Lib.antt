@@ -2,3 +2,5 @@
 pub mod Numbers
 pub mod Walks
 pub mod Crossings
+pub mod Rooms
+pub mod Sides

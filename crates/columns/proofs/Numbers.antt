@@ -1,25 +1,21 @@
 -- The numbers of a frame and of a view with their bounds, and what is computed of them. Assumes nothing.
-use mathlib.Core.Path.{◌≡◌, ap, ◌∙◌, subst}
-use mathlib.Core.Bool.{Bool, true, false, cond}
-use Prim.Native.Nat.{ℕ, ◌≤◌, ◌<◌, ◌^◌}
-use native.Mathlib.Nat.{mul-le-mul}
-use native.Mathlib.Omega.{arith}
-use lib.Dec.{T, ltb}
-use lib.IntN.{ℤ, pos, negsuc, neg_ℤ, nat_abs, ◌-ℤ◌, ◌*ℤ◌}
-use lib.Signed.{lt_z, non_neg}
-use Rattle.integers.specs.Signed.{Made, bits, held, called, back, nat_abs_add, nat_abs_mul, nat_abs_neg}
+use Rattle.std.specs.Prelude.{◌≡◌, Bool, true, false, cond, ℕ, ◌≤◌, ◌^◌, T, ltb, ℤ, pos, negsuc, neg_ℤ, nat_abs, ◌-ℤ◌, ◌*ℤ◌}
+use Rattle.std.proofs.Common.{ap, ◌∙◌, subst, arith}
+use Rattle.std.proofs.Math.Decide.{dec_le}
+use Rattle.std.proofs.Math.Nat.{pow-le-pow_right}
+use Rattle.std.specs.Int.Signed.{lt_z, non_neg}
+use Rattle.integers.specs.Signed.{Made, bits, held, called, back, nat_abs_add, nat_abs_neg}
 use Rattle.integers.specs.Absolute.{absℤ, abs_size}
 use Rattle.strip_tests.specs.Limits.{SpanSized}
-use Rattle.spans.specs.Among.{StepSized}
 use Rattle.row_laws.specs.Columns.{off}
 use Rattle.row_laws.specs.Slanted.{along_q}
 use Rattle.columns.specs.declared.Frame.{Frame}
 use Rattle.columns.specs.declared.View.{View}
 use Rattle.columns.specs.Limits.{FrameSized, ViewSized}
-use Rattle.columns.specs.Frames.{side_made}
 
 -- ---- what calls return
-pub abs_of : {u x v : ℤ} {B : ℕ} → Made u x B → v ≡ absℤ (bits u) → T (ltb B (2 ^ 63)) → Made v (absℤ x) B
+pub abs_of : {u x v : ℤ} {B : ℕ} → Made u x B → v ≡ pos (nat_abs (bits u)) → T (ltb B (2 ^ 63)) → Made v (absℤ x) B
+unfolding absℤ
 abs_of {u} {x} {v} {B} m e t = called (e ∙ ap absℤ (back m)) (rw (abs_size x) m.within) t
 
 along_size : (p : ℤ) (t : Bool) → nat_abs p ≤ 536870912 → nat_abs (cond t (pos 0 -ℤ p) p) ≤ 536870912
@@ -32,21 +28,17 @@ along_of {u} {v} {x} {y} {w} m n e = called (rw (back m, back n) at e) (along_si
 pub gap_of : {u z r : ℤ} {B : ℕ} (s : ℤ) (i : ℕ) → Made u z B → r ≡ off s (bits u) (pos i) → nat_abs r ≤ 1073741824 → Made r (off s z (pos i)) 1073741824
 gap_of {u} {z} {r} s i m e h = let f : r ≡ off s z (pos i) = rw (back m) at e in called f (subst (λ t. nat_abs t ≤ 1073741824) f h) tt
 
--- ---- steps above 0, with any logarithm that is theirs
-nonneg_times : (a b : ℤ) → T (non_neg a) → T (non_neg b) → T (non_neg (a *ℤ b))
+-- ---- steps: a cell's side, and any other that is above 0
+small_power : (k : ℕ) → 2 ^ k ≤ 16777216 → k ≤ 60
+small_power k h = elim (dec_le k 60) [ yes p ↦ p | no p ↦ absurd (omega (arith, h, pow-le-pow_right {n = 2} (omega arith) {i = 61} {j = k} (omega arith))) ]
+
+pub side_sized : (f : Frame) → FrameSized f → f.k ≤ 60
+side_sized f s = small_power f.k (omega (arith, s.k_is, s.q_size))
+
+pub nonneg_times : (a b : ℤ) → T (non_neg a) → T (non_neg b) → T (non_neg (a *ℤ b))
 nonneg_times (pos m) (pos n) s t = tt
 nonneg_times (pos m) (negsuc n) s t = absurd t
 nonneg_times (negsuc m) b s t = absurd s
-
-above_times : (a b : ℤ) → 0 < nat_abs a → 0 < nat_abs b → 0 < nat_abs (a *ℤ b)
-above_times a b h k = omega (arith, nat_abs_mul a b, mul-le-mul h k)
-
-pub step_sized : (u a b : ℤ) (k : ℕ) → nat_abs u ≤ 4611686018427387904 → T (non_neg a) → T (non_neg b) → 0 < nat_abs a → 0 < nat_abs b → nat_abs (a *ℤ b) ≤ 1152921504606846976 → (k < 64 → nat_abs (a *ℤ b) ≡ 2 ^ k) → StepSized u (record { d = a *ℤ b; k = k })
-step_sized u a b k h s t i j m p = record { v_size = h; d_nonneg = nonneg_times a b s t; d_above = above_times a b i j; d_size = m; power = p }
-
--- a cell's side is one
-pub side_sized : (f : Frame) → FrameSized f → (u : ℤ) → nat_abs u ≤ 4611686018427387904 → StepSized u (record { d = pos 2 *ℤ f.q; k = f.k })
-side_sized f s u h = step_sized u (pos 2) f.q f.k h tt s.q_nonneg (omega arith) s.q_above (omega (arith, (side_made f s).within)) (λ h. nat_abs_mul (pos 2) f.q ∙ s.k_is)
 
 -- ---- of a view
 module _ (v : View) (s : ViewSized v) where

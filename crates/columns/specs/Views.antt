@@ -1,5 +1,5 @@
 -- A strip as a frame's first cell sees it, and what it says of the cells. Assumes nothing.
-use Rattle.std.specs.Prelude.{◌≡◌, Bool, not, cond, ◌||◌, ℕ, ℤ, pos, ◌+ℤ◌, ◌-ℤ◌, ◌*ℤ◌}
+use Rattle.std.specs.Prelude.{◌≡◌, Bool, not, ◌||◌, ℕ, ℤ, pos, ◌+ℤ◌, ◌-ℤ◌, ◌*ℤ◌}
 use Rattle.std.proofs.Common.{sym, ap, ap₂, ◌∙◌}
 use Rattle.integers.specs.RingSolver.{name₁, reify, close, ok}
 use Rattle.integers.specs.Absolute.{absℤ}
@@ -25,9 +25,13 @@ view_of f S = record {
 }
 
 -- ---- in column i of a row that is w from the strip
--- not apart by the upright boxes or, where `deep`, inside
-abbrev pub test_at : Bool → Frame → View → ℤ → ℕ → Bool
-test_at deep f v w i = cond deep (is_in f.q v.x w v.ex v.ey f.reach (pos i)) (is_near f.q v.x w v.ex v.ey f.reach (pos i))
+-- not apart by the upright boxes
+abbrev pub near_at : Frame → View → ℤ → ℕ → Bool
+near_at f v w i = is_near f.q v.x w v.ex v.ey f.reach (pos i)
+
+-- inside
+abbrev pub inside_at : Frame → View → ℤ → ℕ → Bool
+inside_at f v w i = is_in f.q v.x w v.ex v.ey f.reach (pos i)
 
 -- not away across the axis, or the axis lies along x or y
 abbrev pub across_at : Frame → View → ℤ → ℕ → Bool

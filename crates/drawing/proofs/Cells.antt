@@ -1,5 +1,5 @@
 -- The numbers of a block: where its middle is, half its side, and that no step leaves 64 bits. Assumes nothing.
-use mathlib.Core.Path.{◌≡◌, sym, ap, ap₂, ◌∙◌, subst}
+use mathlib.Core.Path.{◌≡◌, sym, ap₂, subst}
 use Prim.Native.Nat.{ℕ, ◌+◌, ◌*◌, ◌≤◌, ◌<◌, ◌^◌}
 use native.Mathlib.Nat.{le_trans, mul-le-mul_right}
 use native.Mathlib.Omega.{arith}
@@ -49,33 +49,5 @@ module _ (f : Frame) (s : FrameSized f) (c r w : ℕ) (hc : c + w ≤ f.n) (hr :
     reach_sized = s.reach_sized;
   }
 
--- ---- the frame's numbers read back from their bits
-module _ (f : Frame) (s : FrameSized f) where
-  pub x_back : to_z w64 (of_z w64 f.x) ≡ f.x
-  x_back = back (held f.x s.x_size tt)
-
-  pub y_back : to_z w64 (of_z w64 f.y) ≡ f.y
-  y_back = back (held f.y s.y_size tt)
-
-  pub q_back : to_z w64 (of_z w64 f.q) ≡ f.q
-  q_back = back (held f.q s.q_size tt)
-
-  pub reach_back : to_z w64 (of_z w64 f.reach) ≡ f.reach
-  reach_back = back (held f.reach s.reach_sized.r_size tt)
-
--- what `middle` and `half_side` require, of numbers read back
-abbrev bits : ℤ → ℤ
-bits z = to_z w64 (of_z w64 z)
-
-pub middle_asked : (x q : ℤ) (n c w : ℕ) → bits x ≡ x → bits q ≡ q → n ≤ 256 → nat_abs x ≤ 33554432 → T (non_neg q) → n * nat_abs q ≤ 8388608 → c + w ≤ n → (nat_abs (bits x) ≤ 33554432) × T (non_neg (bits q)) × (2 * c + w ≤ 512) × ((2 * c + w) * nat_abs (bits q) ≤ 16777216)
-middle_asked x q n c w ex eq hn hx hq h k = rw (ex, eq) (hx, hq, omega arith, doubled n c w (nat_abs q) h k)
-
-pub half_asked : (q : ℤ) (n c w : ℕ) → bits q ≡ q → n ≤ 256 → T (non_neg q) → n * nat_abs q ≤ 8388608 → c + w ≤ n → T (non_neg (bits q)) × (w ≤ 256) × (w * nat_abs (bits q) ≤ 8388608)
-half_asked q n c w eq hn hq h k = rw eq (hq, omega arith, single n c w (nat_abs q) h k)
-
--- what they return
-pub middle_is : (v x q : ℤ) (c w : ℕ) → bits x ≡ x → bits q ≡ q → bits v ≡ v → v ≡ middle (bits x) (bits q) c w → bits v ≡ middle x q c w
-middle_is v x q c w ex eq ev e = ev ∙ e ∙ ap₂ (λ a b. middle a b c w) ex eq
-
-pub half_is : (v q : ℤ) (w : ℕ) → bits q ≡ q → bits v ≡ v → v ≡ pos w *ℤ bits q → bits v ≡ pos w *ℤ q
-half_is v q w eq ev e = ev ∙ e ∙ ap (λ b. pos w *ℤ b) eq
+pub reach_back : (f : Frame) → FrameSized f → to_z w64 (of_z w64 f.reach) ≡ f.reach
+reach_back f s = back (held f.reach s.reach_sized.r_size tt)

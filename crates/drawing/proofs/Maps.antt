@@ -2,19 +2,22 @@
 use mathlib.Core.Path.{◌≡◌, refl, sym, ap, ap₂, ◌∙◌, subst}
 use mathlib.Core.List.{List, ◌++◌}
 use Prim.Native.Nat.{ℕ, ◌+◌, ◌-◌, ◌*◌, ◌/◌, ◌%◌, ◌^◌, ◌≤◌, ◌<◌, zero-le}
-use native.Mathlib.Nat.{le_trans, mul_comm, mul_assoc, mul-le-mul_right, div-add-mod', mod-lt, le-div_iff_mul-le}
+use native.Mathlib.Nat.{le_trans, lt_of_le_of_lt, mul_comm, mul_assoc, mul-le-mul_right, div-add-mod', mod-lt, le-div_iff_mul-le}
 use native.Mathlib.Omega.{arith}
 use lib.Pow.{pow_mono, pow_pos, pow-add}
-use lib.IntN.{ℤ, pos, negsuc, nat_abs, ◌+ℤ◌, ◌*ℤ◌}
-use lib.Signed.{mag}
+use lib.Dec.{T}
+use lib.IntN.{ℤ, pos, negsuc, nat_abs, ◌+ℤ◌, ◌-ℤ◌, ◌*ℤ◌}
+use lib.Signed.{non_neg}
+use Rattle.std.proofs.lemmas.Int.{ints}
 use mir.Syntax.{w32, w64}
-use mir.Val.{to_z, of_z}
+use mir.Val.{SFits, to_z, of_z}
+use mir.Facts.{to_z-of_z, to_z_pos}
 use lib.ListN.{length, get_or, take, drop, length-drop, take-append-drop}
 use lib.Seq.{get_or-drop, ext_get_or}
 use Rattle.integers.specs.RingSolver.{name₄, reify, close, ok}
 use Rattle.integers.specs.Order.{◌≼◌, ≼_pos, num, ◌⊠◌}
 use Rattle.integers.specs.Inequalities.{≼_trans}
-use Rattle.integers.specs.Signed.{nat_abs_add, nat_abs_mul, read32, read64}
+use Rattle.integers.specs.Signed.{nat_abs_add, nat_abs_mul, fits32, called, back}
 use Rattle.sequences.specs.RowMajor.{row_major, length_row_major, is_row_major}
 use Rattle.model.specs.declared.Job.{Job}
 use Rattle.model.specs.Jobs.{plate_log, cell_log, judge}
@@ -70,15 +73,52 @@ job_numbers j good =
       reach = natural j.reach i.reach_in;
     }
 
--- an exponent read back from its bits
-pub log_back : (k : ℕ) (z : ℤ) → k ≡ nat_abs (to_z w32 (of_z w32 z)) → mag z < 2 ^ 31 → k ≡ nat_abs z
-log_back k z e g = e ∙ ap nat_abs (read32 z g)
+-- ---- the numbers as they are read
+pub log_read : {z : ℤ} → Natural 0 20 z → to_z w32 (of_z w32 z) ≡ z
+log_read n = to_z-of_z (fits32 n.most tt)
 
--- a length in fine units read back
-pub fine_back : (v z : ℤ) → v ≡ pos 16 *ℤ to_z w32 (of_z w32 z) → mag v < 2 ^ 63 → mag z < 2 ^ 31 → to_z w64 (of_z w64 v) ≡ pos 16 *ℤ z
-fine_back v z e f g = read64 v f ∙ e ∙ ap (λ u. pos 16 *ℤ u) (read32 z g)
+pub log_bits : (z : ℤ) → Natural 0 20 z → of_z w64 (to_z w32 (of_z w32 z)) ≤ 20
+log_bits z n = rw (log_read n) (go z n)
+  where
+    go : (z : ℤ) → Natural 0 20 z → of_z w64 z ≤ 20
+    go (pos k) n = n.most
+    go (negsuc k) n = absurd n.nonneg
+
+-- a length in fine units
+pub fine_read : (v z : ℤ) → v ≡ pos 16 *ℤ to_z w32 (of_z w32 z) → nat_abs z ≤ 1000000 → to_z w64 (of_z w64 v) ≡ pos 16 *ℤ z
+fine_read v z e h =
+    let r : to_z w32 (of_z w32 z) ≡ z = to_z-of_z (fits32 h tt) in
+    back (called {B = 16000000} (rw r at e) (omega (arith, nat_abs_mul (pos 16) z, h)) tt)
+
+less : (n m : ℤ) → T (non_neg n) → T (non_neg m) → nat_abs m ≤ nat_abs n → n -ℤ m ≡ pos (nat_abs n - nat_abs m)
+less (pos a) (pos b) t u h = omega (arith, ints)
+less (negsuc a) m t u h = absurd t
+less (pos a) (negsuc b) t u h = absurd u
+
+-- a shift that leaves no bit behind
+pub shifted : (a k B : ℕ) → a * 2 ^ k ≤ B → B < 2 ^ 64 → (a * 2 ^ k) % 2 ^ 64 ≡ a * 2 ^ k
+shifted a k B h l = let s : a * 2 ^ k < 2 ^ 64 = lt_of_le_of_lt h l in omega (arith, s)
+
+module _ (j : Job) (good : judge j ≡ 0) where
+  levels_less : j.n -ℤ j.m ≡ pos (plate_log j - cell_log j)
+  levels_less = let s = job_numbers j good in less j.n j.m s.plate.nonneg s.cell.nonneg s.cell_size
+
+  pub levels_fit : SFits w32 (to_z w32 (of_z w32 j.n) -ℤ to_z w32 (of_z w32 j.m))
+  levels_fit = let s = job_numbers j good in rw (log_read s.plate, log_read s.cell, levels_less) (fits32 {B = 8} s.few tt)
+
+  pub levels_read : to_z w32 (of_z w32 (to_z w32 (of_z w32 j.n) -ℤ to_z w32 (of_z w32 j.m))) ≡ pos (plate_log j - cell_log j)
+  levels_read = let s = job_numbers j good in rw (to_z-of_z levels_fit, log_read s.plate, log_read s.cell, levels_less)
 
 -- ---- the frame
+pub unit_read : (j : Job) → judge j ≡ 0 → to_z w64 ((8 * 2 ^ of_z w64 (to_z w32 (of_z w32 j.m))) % 2 ^ 64) ≡ pos (8 * 2 ^ cell_log j)
+unit_read j good = rw (log_read (job_numbers j good).cell) (go j.m (job_numbers j good).cell)
+  where
+    go : (z : ℤ) → Natural 0 20 z → to_z w64 ((8 * 2 ^ of_z w64 z) % 2 ^ 64) ≡ pos (8 * 2 ^ nat_abs z)
+    go (pos k) n =
+        let h : 8 * 2 ^ k ≤ 8388608 = omega (arith, pow_mono n.most) in
+        rw (shifted 8 k 8388608 h (omega arith)) (to_z_pos w64 (omega (arith, h)))
+    go (negsuc k) n = absurd n.nonneg
+
 pub columns_few : (j : Job) → judge j ≡ 0 → columns j ≤ 256
 columns_few j good = pow_mono (job_numbers j good).few
 
@@ -134,10 +174,9 @@ module _ (j : Job) (cells : List ℕ) (store : List ℤ) (h : MapReady j cells s
   pub count_most : j.count ≤ 64
   count_most = (legal j h.accepted).few
 
-  pub whole_ready : (list : List ℕ) → length list ≡ 64 → Starts store (take j.count list) (forest j) → Ready store list j.count (frame_of j 0) 0 0 (columns j)
+  pub whole_ready : (list : List ℕ) → length list ≡ j.count → Starts store list (forest j) → Ready store list (frame_of j 0) (record { c = 0; r = 0; w = columns j })
   whole_ready list l s = record {
-    list_long = l;
-    count_most = count_most;
+    few = omega (arith, l, count_most);
     trees = record { trees = forest j; starts = s };
     frame_sized = frame_sized j h.accepted 0 zero-le;
     power = record { level = plate_log j - cell_log j; is = refl };

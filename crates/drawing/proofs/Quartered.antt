@@ -6,13 +6,13 @@ use native.Mathlib.Nat.{pow-succ'}
 use native.Mathlib.Omega.{arith}
 use lib.Pow.{pow_pos}
 use lib.IntN.{ℤ}
-use lib.ListN.{length, get_or, take}
-use Rattle.model.specs.Trees.{Tree}
+use lib.ListN.{length, get_or, take, length-take}
 use Rattle.inheritance.specs.Edges.{opened}
-use Rattle.open_edges.specs.Starts.{Starts}
+use Rattle.open_edges.specs.Starts.{StillOpen}
 use Rattle.filling.specs.Squares.{In, over, Drawn}
 use Rattle.filling.specs.Quarters.{quarters, over_agree}
 use Rattle.columns.specs.declared.Frame.{Frame}
+use Rattle.drawing.specs.declared.Block.{Block}
 use Rattle.drawing.specs.Letters.{asked}
 use Rattle.drawing.specs.Ready.{PowerOfTwo, Ready}
 
@@ -33,11 +33,10 @@ pub halved : (w : ℕ) → PowerOfTwo w → (w ≡ 1 → ⊥) → Halved w
 halved w p n = halve p.level w p.is n
 
 -- ---- a quarter with the trees that are still open
-pub ready_quarter : {store : List ℤ} {list : List ℕ} {count : ℕ} {f : Frame} {c r w : ℕ} (p : Ready store list count f c r w) (keep : List ℕ) (kept : ℕ) → length keep ≡ 64 → kept ≤ count → ((ts : List Tree) → Starts store (take count list) ts → Starts store (take kept keep) (opened (asked f c r w) ts)) → (x y h : ℕ) → PowerOfTwo h → x + h ≤ f.n → y + h ≤ f.n → Ready store keep kept f x y h
-ready_quarter {f = f} {c = c} {r = r} {w = w} p keep kept l k s x y h q hx hy = record {
-  list_long = l;
-  count_most = omega (arith, p.count_most);
-  trees = record { trees = opened (asked f c r w) p.trees.trees; starts = s p.trees.trees p.trees.starts };
+pub ready_quarter : {store : List ℤ} {list : List ℕ} {f : Frame} {b : Block} (p : Ready store list f b) (keep : List ℕ) (kept : ℕ) → StillOpen (asked f b.c b.r b.w) store list (length list) kept keep → (x y h : ℕ) → PowerOfTwo h → x + h ≤ f.n → y + h ≤ f.n → Ready store (take kept keep) f (record { c = x; r = y; w = h })
+ready_quarter {f = f} {b = b} p keep kept s x y h q hx hy = record {
+  few = omega (arith, s.fewer, p.few, length-take kept keep);
+  trees = record { trees = opened (asked f b.c b.r b.w) p.trees.trees; starts = s.still p.trees.trees p.trees.starts };
   frame_sized = p.frame_sized;
   power = q;
   columns_fit = hx;

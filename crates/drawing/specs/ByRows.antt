@@ -1,5 +1,5 @@
 -- What drawing by rows asks for, and what a tree and several leave of a cell. Assumes nothing.
-use Rattle.std.specs.Prelude.{◌≡◌, cond, List, [], ◌∷◌, ℕ, ◌*◌, ◌≤◌, max, ltb, ℤ, length, take}
+use Rattle.std.specs.Prelude.{cond, List, [], ◌∷◌, ℕ, ◌*◌, ◌≤◌, max, ltb, ℤ, length}
 use Rattle.model.specs.Trees.{Tree, deepest}
 use Rattle.model.specs.Explore.{Answer, explore, explore_all}
 use Rattle.subtrees.specs.At.{At}
@@ -8,7 +8,8 @@ use Rattle.columns.specs.declared.Frame.{Frame}
 use Rattle.columns.specs.Limits.{FrameSized}
 use Rattle.rows.specs.Weights.{weight}
 use Rattle.rows.specs.Waiting.{depth}
-use Rattle.levels.specs.Open.{Levels}
+use Rattle.levels.specs.declared.Levels.{Levels}
+use Rattle.levels.specs.Open.{Fits}
 use Rattle.rows.specs.Levels.{AllOpen}
 use Rattle.drawing.specs.Letters.{asked}
 
@@ -25,20 +26,18 @@ pub record ShallowAt (store : List ℤ) (a : ℕ) : Type 0 where
   pub at : At store a tree
   pub shallow : Shallow tree
 
--- the first `count` numbers of the list are where such trees start
-pub record Listed (store : List ℤ) (list : List ℕ) (count : ℕ) : Type 0 where
-  pub list_long : length list ≡ 64
-  pub count_most : count ≤ 64
+-- these places are where such trees start
+pub record ShallowTrees (store : List ℤ) (places : List ℕ) : Type 0 where
   pub trees : List Tree
-  pub starts : Starts store (take count list) trees
+  pub starts : Starts store places trees
   pub shallow : EachShallow trees
 
 -- ---- the n rows of a map, all of whose columns are open at level 0
-pub record RowsOpen (f : Frame) (map los his : List ℕ) : Type 0 where
+pub record RowsOpen (f : Frame) (map : List ℕ) (levels : Levels) : Type 0 where
   pub frame_sized : FrameSized f
   pub room : f.n * f.n ≤ length map
-  pub levels : Levels f.n los his
-  pub all_open : AllOpen f.n f.n los his
+  pub fits : Fits f.n levels
+  pub all_open : AllOpen f.n f.n levels
 
 -- ---- a cell of these rows is raised to what is answered for it, and any other stays as it was
 abbrev pub raised_to : Frame → (ℕ → ℕ → Answer) → ℕ → ℕ → ℕ → ℕ

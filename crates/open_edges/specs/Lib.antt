@@ -2,3 +2,4 @@
 pub mod Starts
 pub mod Looked
 pub mod Counts
+pub mod Sees

@@ -155,11 +155,6 @@ module _ (store : List ℤ) (v : Strip → Answer) (ps : List ℕ) (k a : ℕ) (
   tree_at f = let n = nth store k f.starts l in record { tree = n.tree; at = back n.tree n.at }
 
 -- ---- answers by their numbers
-pub code_few : (a : Answer) → code a ≤ 2
-code_few inside = omega arith
-code_few away = omega arith
-code_few maybe = omega arith
-
 pub is_inside : (a : Answer) (n : ℕ) → n ≡ code a → n ≡ 2 → a ≡ inside
 is_inside inside n e f = refl
 is_inside away n e f = absurd (omega arith)

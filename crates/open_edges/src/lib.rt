@@ -2,84 +2,64 @@
 // away, so that no part of the cell asks them again.
 #![tactic(auto)]
 
-ghost use Rattle.std.specs.Prelude.{◌≡◌, true, false, List, ◌≤◌, length, take};
+ghost use Rattle.std.specs.Prelude.{◌≡◌, List, ◌≤◌, length};
 ghost use Rattle.model.specs.Trees.{Tree};
 ghost use Rattle.model.specs.Explore.{explore};
-ghost use Rattle.strip_tests.specs.PlainTests.{code};
+ghost use Rattle.strip_tests.specs.Answers.{meaning};
 ghost use Rattle.search.specs.Probes.{judged_by, Fair};
 ghost use Rattle.subtrees.specs.Fronts.{Holds, TreesOf};
 ghost use Rattle.subtrees.specs.At.{At};
-ghost use Rattle.open_edges.specs.Starts.{TreeAt, Starts, Forest, AllInside, StillOpen};
+ghost use Rattle.open_edges.specs.Starts.{TreeAt, Starts, Forest};
+ghost use Rattle.open_edges.specs.Sees.{Sees};
 
-use nodes::{COUNT, WIDTH};
+use nodes::{COUNT, WIDTH, count_at};
 use search::Probe;
+use strip_tests::Answer;
 
 // the answer of the tree that starts at place a
-fn ask(store: &[i32], a: usize, probe: Probe) -> u8
+fn ask(store: &[i32], a: usize, probe: Probe) -> Answer
     requires held { TreeAt store.now a × Fair probe }
-    ensures answer { (t : Tree) → At store.now a t → result ≡ code (explore (judged_by probe) t) }
+    ensures answer { (t : Tree) → At store.now a t → meaning result ≡ explore (judged_by probe) t }
 {
-    let n = nodes::count_at(store, a + COUNT);
-    let b = a + WIDTH * n;
-    search::search(&store[a..b], probe)
+    let nodes = count_at(store, a + COUNT);
+    search::search(&store[a..a + WIDTH * nodes], probe)
 }
 
-// Whether some tree is inside, and if none is, how many are not away.
-#[derive(Clone, Copy)]
-pub struct Seen {
-    pub inside: bool,
-    pub kept: usize,
+// What open trees tell of a cell: that one is inside, or how many are not away.
+#[derive(Clone, Copy, Debug, PartialEq, Eq)]
+pub enum Seen {
+    Inside,
+    Open(usize),
 }
 
-// asks the trees that start at the first `count` numbers of list, and keeps the starts of those that are not away
-pub fn explore_open(
-    store: &[i32],
-    list: &[usize; 64],
-    count: usize,
-    keep: &mut [usize; 64],
-    probe: Probe,
-) -> Seen
-    requires held { (count ≤ 64) × Forest store.now (take count list.now) × Fair probe × (length list.now ≡ 64) × (length keep.old ≡ 64) }
-    ensures long { length keep.new ≡ 64 }
-    ensures yes { result.inside ≡ true → AllInside (judged_by probe) store.now (take count list.now) }
-    ensures no { result.inside ≡ false → StillOpen (judged_by probe) store.now (take count list.now) count result.kept keep.new }
+// asks the trees that start at the places of list, and keeps the places of those that are not away: in an array that is lent, since there is no heap
+#[tactic(auto, using(crate::proofs::Looking::all_looked))]
+pub fn explore_open(store: &[i32], list: &[usize], keep: &mut [usize; 64], probe: Probe) -> Seen
+    requires held { (length list.now ≤ 64) × Forest store.now list.now × Fair probe }
+    ensures seen { Sees (judged_by probe) store.now list.now keep.new result }
 {
-    let mut kept: usize = 0;
-    let mut k: usize = 0;
-    while k < count {
-        let a = list[k];
-        let answer = ask(store, a, probe);
-        if answer == 2 {
-            return Seen {
-                inside: true,
-                kept: 0,
-            };
-        }
-        k += 1;
-        let open = answer == 1;
-        if open {
-            keep[kept] = a;
-            kept += 1;
+    let mut kept = 0;
+    for &start in list {
+        match ask(store, start, probe) {
+            Answer::Inside => return Seen::Inside,
+            Answer::Away => {}
+            Answer::Maybe => {
+                keep[kept] = start;
+                kept += 1;
+            }
         }
     }
-    Seen {
-        inside: false,
-        kept,
-    }
+    Seen::Open(kept)
 }
 
-// where each edge's tree starts, from the subtree counts
-pub fn list_starts(store: &[i32], count: usize, list: &mut [usize; 64])
-    requires held { (count ≤ 64) × TreesOf store.now count × (length list.old ≡ 64) }
-    ensures long { length list.new ≡ 64 }
-    ensures starts { (ts : List Tree) → Holds store.now count ts → Starts store.now (take count list.new) ts }
+// where each edge's tree starts, from the subtree counts: as many as list has room for
+pub fn list_starts(store: &[i32], list: &mut [usize])
+    requires held { TreesOf store.now (length list.old) }
+    ensures starts { (ts : List Tree) → Holds store.now (length list.old) ts → Starts store.now list.new ts }
 {
-    let mut at: usize = 0;
-    let mut e: usize = 0;
-    while e < count {
-        list[e] = at;
-        let n = nodes::count_at(store, at + COUNT);
-        at += WIDTH * n;
-        e += 1;
+    let mut at = 0;
+    for start in list.iter_mut() {
+        *start = at;
+        at += WIDTH * count_at(store, at + COUNT);
     }
 }

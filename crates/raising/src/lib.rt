@@ -12,10 +12,8 @@ use spans::Span;
 fn raise(s: &mut [u8], b: u8)
     ensures larger { (k : ℕ) → k < length s.old → get_or s.new k 0 ≡ max (get_or s.old k 0) b }
 {
-    let mut i = 0;
-    while i < s.len() {
-        s[i] = if s[i] < b { b } else { s[i] };
-        i += 1;
+    for x in s.iter_mut() {
+        *x = (*x).max(b);
     }
 }
 
@@ -24,11 +22,8 @@ pub fn raise_row(map: &mut [u8], n: usize, j: usize, c: Span, b: u8)
     requires within { (c.hi ≤ n) × (j * n + n ≤ length map.old) }
     ensures stretch { Drawn n map.new map.old (λ i y. raised (eqb y j && among c i) b) }
 {
-    let lo = c.lo;
-    let hi = c.hi;
-    if lo < hi {
-        let a = j * n + lo;
-        let e = j * n + hi;
-        raise(&mut map[a..e], b);
+    if c.lo < c.hi {
+        let row = j * n;
+        raise(&mut map[row + c.lo..row + c.hi], b);
     }
 }

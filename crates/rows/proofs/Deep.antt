@@ -1,11 +1,7 @@
 -- Where a strip can be inside the reach of a cell, and the numbers by which that is told. Assumes nothing.
-use mathlib.Core.Path.{◌≡◌, refl, sym, ap, ◌∙◌, subst}
-use mathlib.Core.Bool.{Bool, true, false, ◌&&◌}
-use mathlib.Core.List.{List}
-use Prim.Native.Nat.{ℕ}
-use lib.Dec.{T}
-use lib.IntN.{ℤ, pos, ◌+ℤ◌, ◌-ℤ◌, ◌*ℤ◌}
-use lib.Signed.{le_z, lt_z, clash_ℤ}
+use Rattle.std.specs.Prelude.{◌≡◌, Bool, true, false, ◌&&◌, List, ℕ, T, ℤ, pos, ◌+ℤ◌, ◌-ℤ◌, ◌*ℤ◌}
+use Rattle.std.proofs.Common.{refl, sym, ap, ◌∙◌, subst}
+use Rattle.std.specs.Int.Signed.{le_z, lt_z, clash_ℤ}
 use Rattle.integers.specs.Order.{◌≼◌, ◌⊞◌}
 use Rattle.integers.specs.Signed.{Made, bits, held, times, plus, minus, nonneg}
 use Rattle.integers.specs.Absolute.{absℤ, abs_nonneg}
@@ -47,6 +43,13 @@ module _ (v : View) (f : Frame) (k : ViewSized v) (h : FrameSized f) where
   pub deep_y_made : Made (bits f.reach -ℤ bits v.ey) (f.reach -ℤ v.ey) 822083584
   deep_y_made = minus reach_made ey_made tt
 
+  -- and those that it is not away from
+  pub kept_x_made : Made (bits v.ex +ℤ bits f.reach) (v.ex +ℤ f.reach) 822083584
+  kept_x_made = plus ex_made reach_made tt
+
+  pub kept_y_made : Made (bits v.ey +ℤ bits f.reach) (v.ey +ℤ f.reach) 822083584
+  kept_y_made = plus ey_made reach_made tt
+
   pub square_made : Made (bits f.reach *ℤ bits f.reach) (f.reach *ℤ f.reach) 281474976710656
   square_made = times reach_made reach_made tt
 
@@ -79,11 +82,11 @@ module _ (v : View) (f : Frame) (k : ViewSized v) (h : FrameSized f) where
   -- ---- what is clipped by how far such cells can be is free
   module _ (near : Span) where
     -- columns of a row
-    pub found_is : (los his : List ℕ) (d i j : ℕ) (s c r : Span) → ((i : ℕ) → among near i ≡ le_z (absℤ (off f.q v.x (pos i))) (f.reach -ℤ v.ex)) → s ≡ span_in los his d j → among c i ≡ (among s i && among near i) → among r i ≡ (among c i && inside_in f v i j) → among r i ≡ (open_in los his d i j && inside_in f v i j)
-    found_is los his d i j s c r n_is s-is c-is e =
+    pub found_is : (l : List Span) (d i j : ℕ) (s c r : Span) → ((i : ℕ) → among near i ≡ le_z (absℤ (off f.q v.x (pos i))) (f.reach -ℤ v.ex)) → s ≡ span_in l d j → among c i ≡ (among s i && among near i) → among r i ≡ (among c i && inside_in f v i j) → among r i ≡ (open_in l d i j && inside_in f v i j)
+    found_is l d i j s c r n_is s-is c-is e =
         e
         ∙ ap (λ b. b && inside_in f v i j) (c-is ∙ ap (λ (u : Span). among u i && among near i) s-is)
-        ∙ free (open_in los his d i j) (among near i) (inside_in f v i j) (λ t. subst T (sym (n_is i)) (deep_x f v h k i j t))
+        ∙ free (open_in l d i j) (among near i) (inside_in f v i j) (λ t. subst T (sym (n_is i)) (deep_x f v h k i j t))
 
     -- rows
     pub rows_are : (rows left : Span) (o : Bool) (i j : ℕ) → ((j : ℕ) → among near j ≡ le_z (absℤ (off f.q v.y (pos j))) (f.reach -ℤ v.ey)) → among left j ≡ (among rows j && among near j) → (among left j && (o && inside_in f v i j)) ≡ (among rows j && o && inside_in f v i j)

@@ -1,7 +1,9 @@
 -- Tests joined. Assumes nothing.
-use mathlib.Core.Path.{◌≡◌, refl, sym, ap, ◌∙◌, subst}
-use mathlib.Core.Bool.{Bool, true, false, not, ◌&&◌}
-use lib.Dec.{T}
+use Rattle.std.specs.Prelude.{◌≡◌, Bool, true, false, not, ◌&&◌, ℕ, ◌≤◌, ◌<◌, T, leb, ltb}
+use Rattle.std.proofs.Common.{refl, sym, ap, ◌∙◌, subst, leb→le, ltb→lt}
+use Rattle.integers.specs.Tests.{t_both}
+use Rattle.spans.specs.declared.Span.{Span}
+use Rattle.spans.specs.Among.{among}
 
 -- a test that the last one brings is free
 pub free : (a c t : Bool) → (T t → T c) → (a && c && t) ≡ (a && t)
@@ -9,6 +11,12 @@ free true true t f = refl
 free true false true f = absurd (f tt)
 free true false false f = refl
 free false c t f = refl
+
+-- a test that the first one brings is free
+pub brought : (a c : Bool) → (T a → T c) → (a && c) ≡ a
+brought true true f = refl
+brought true false f = absurd (f tt)
+brought false c f = refl
 
 -- a third that the fourth brings is free
 pub clip : (a c o t : Bool) → (T t → T c) → (a && c && o && t) ≡ (a && o && t)
@@ -36,3 +44,14 @@ guarded false b c f = refl
 pub regroup : (a b c : Bool) → (a && (b && c)) ≡ (a && b && c)
 regroup true b c = refl
 regroup false b c = refl
+
+-- ---- of a stretch
+pub inside : (c : Span) (j : ℕ) → T (among c j) → (c.lo ≤ j) × (j < c.hi)
+inside c j t = let p = t_both (leb c.lo j) (ltb j c.hi) t in (leb→le c.lo j p.0, ltb→lt j c.hi p.1)
+
+pub empty : (c : Span) (j : ℕ) → (c.lo ≤ j → j < c.hi → ⊥) → among c j ≡ false
+empty c j h = go (among c j) refl
+  where
+    go : (t : Bool) → among c j ≡ t → t ≡ false
+    go false e = refl
+    go true e = let p = inside c j (subst T (sym e) tt) in absurd (h p.0 p.1)

@@ -3,3 +3,4 @@ pub mod Weights
 -- the walk over a part of the store, and its levels
 pub mod Waiting
 pub mod Levels
+pub mod Bands

@@ -10,11 +10,6 @@ use Rattle.ranges.specs.Sizes.{Sized, AllSized}
 use Rattle.strip_tests.specs.PlainTests.{code}
 use Rattle.subtrees.specs.Preorder.{size_pos, top}
 
-pub code_few : (a : Answer) → code a ≤ 2
-code_few inside = omega arith
-code_few away = omega arith
-code_few maybe = omega arith
-
 -- joined, the larger holds
 pub join_is : (a b : Answer) → code (join a b) ≡ max (code a) (code b)
 join_is inside inside = refl

@@ -1,22 +1,29 @@
 -- The walk of a part node by node: what was found so far, joined with what the trees still to be looked at tell, is the tree's answer. Answers are
--- numbers here, so that joining is the larger of two and each step is arithmetic. Assumes nothing.
+-- compared by their numbers here, so that joining is the larger of two and each step is arithmetic. Assumes nothing.
 use mathlib.Core.Path.{◌≡◌, refl, sym, ap, ◌∙◌, subst}
 use mathlib.Core.List.{List, [], ◌∷◌}
 use Prim.Native.Nat.{ℕ, ◌+◌, ◌*◌, ◌≤◌, ◌<◌, max}
 use native.Mathlib.Omega.{arith}
 use lib.IntN.{ℤ, pos, nat_abs}
-use lib.ListN.{length, get_or, drop}
+use lib.Dec.{T}
+use lib.Signed.{non_neg}
+use lib.ListN.{length, get_or, drop, length-drop}
 use Rattle.model.specs.Strips.{Strip}
 use Rattle.model.specs.Trees.{Tree, leaf, long, node}
-use Rattle.model.specs.Explore.{Answer, explore, explore_all, join}
+use Rattle.model.specs.Explore.{Answer, inside, away, maybe, explore, explore_all, join}
 use Rattle.model.specs.Store.{width, size, flatten}
-use Rattle.ranges.specs.Sizes.{AllSized}
+use Rattle.ranges.specs.Sizes.{Sized, AllSized}
+use Rattle.strip_tests.specs.Answers.{code_few, same_code}
 use Rattle.strip_tests.specs.PlainTests.{code}
 use Rattle.nodes.specs.Places.{count_place, strip_in}
 use Rattle.subtrees.specs.Preorder.{size_pos, top}
 use Rattle.subtrees.specs.Pending as pending
 use Rattle.subtrees.specs.Pending.{Rest}
-use Rattle.search.proofs.Finds.{code_few, join_is, open_is, closed, alone}
+use Rattle.search.proofs.Finds.{join_is, open_is, closed, alone}
+
+-- what lies from a place on, as a part of its own
+from : (l : List ℤ) (k : ℕ) (ts : List Tree) → Rest l k ts → Rest (drop k l) 0 ts
+from l k ts r = record { is = r.is; long = omega (arith, r.long, length-drop k l); sized = r.sized }
 
 module _ (v : Strip → Answer) where
   abbrev told : List Tree → ℕ
@@ -30,85 +37,97 @@ module _ (v : Strip → Answer) where
   unfolding explore_all
   told_more t ts = join_is (explore v t) (explore_all v ts)
 
-  -- at place `at` of l, which holds t: nothing inside was met, and `found` joined with what is pending is t's answer
-  pub record Sofar (l : List ℤ) (t : Tree) (found at : ℕ) : Type 0 where
-    pub low : found ≤ 1
+  -- of the tree t the rest is still to be walked: nothing inside was met, and `found` joined with what is pending is t's answer
+  pub record Sofar (rest : List ℤ) (t : Tree) (found : Answer) : Type 0 where
+    pub low : code found ≤ 1
     pub pending : List Tree
-    pub rest : Rest l at pending
-    pub joined : code (explore v t) ≡ max found (told pending)
+    pub holds : Rest rest 0 pending
+    pub joined : code (explore v t) ≡ max (code found) (told pending)
 
-  pub begin : (l : List ℤ) (t : Tree) → AllSized t → l ≡ flatten t → Sofar l t 0 0
-  begin l t f e = record { low = omega arith; pending = t ∷ []; rest = pending.whole l t e f; joined = omega (arith, told_more t [], told_none) }
+  pub begin : (part : List ℤ) (t : Tree) → AllSized t → part ≡ flatten t → Sofar part t away
+  begin part t f e = record { low = omega arith; pending = t ∷ []; holds = pending.whole part t e f; joined = omega (arith, told_more t [], told_none) }
 
-  pub end : {l : List ℤ} {t : Tree} {found at : ℕ} → Sofar l t found at → length l ≤ at → code (explore v t) ≡ found
-  end {l} {t} {found} {at} w h = omega (arith, w.joined, ap told (pending.done l at w.pending w.rest h), told_none)
+  pub end : {rest : List ℤ} {t : Tree} {found : Answer} → Sofar rest t found → length rest ≤ 0 → found ≡ explore v t
+  end {rest} {t} {found} w h = same_code found (explore v t) (omega (arith, w.joined, ap told (pending.done rest 0 w.pending w.holds h), told_none))
 
-  -- ---- the node that comes next, with the answer and the count that were read of it
-  pub record Next (l : List ℤ) (t : Tree) (found at here n : ℕ) : Type 0 where
-    pub low : found ≤ 1
+  -- ---- the node that comes next, with its count
+  pub record Next (rest : List ℤ) (t : Tree) (found : Answer) : Type 0 where
+    pub low : code found ≤ 1
     pub tree : Tree
     pub others : List Tree
-    pub rest : Rest l at (tree ∷ others)
-    pub joined : code (explore v t) ≡ max found (max (code (explore v tree)) (told others))
-    pub here_is : here ≡ code (v (top tree))
-    pub n_is : n ≡ size tree
+    pub holds : Rest rest 0 (tree ∷ others)
+    pub joined : code (explore v t) ≡ max (code found) (max (code (explore v tree)) (told others))
 
-  pub next : {l : List ℤ} {t : Tree} {found at here n : ℕ} → Sofar l t found at → at < length l → here ≡ code (v (strip_in (drop at l))) → n ≡ nat_abs (get_or l (at + count_place) (pos 0)) → Next l t found at here n
-  next {l} {t} {found} {at} {here} {n} w h e k =
-      let f = pending.more l at w.pending w.rest h in
-      let r : Rest l at (f.tree ∷ f.others) = subst (λ (ts : List Tree). Rest l at ts) f.are w.rest in
+  pub next : {rest : List ℤ} {t : Tree} {found : Answer} → Sofar rest t found → 0 < length rest → Next rest t found
+  next {rest} {t} {found} w h =
+      let f = pending.more rest 0 w.pending w.holds h in
       record {
         low = w.low;
         tree = f.tree;
         others = f.others;
-        rest = r;
+        holds = subst (λ (ts : List Tree). Rest rest 0 ts) f.are w.holds;
         joined = omega (arith, w.joined, ap told f.are, told_more f.tree f.others);
-        here_is = e ∙ ap (λ (S : Strip). code (v S)) (pending.strip_is r);
-        n_is = k ∙ ap nat_abs (pending.count_is r);
       }
 
-module _ {v : Strip → Answer} {l : List ℤ} {t : Tree} {found at here n : ℕ} (w : Next v l t found at here n) where
-  -- it has a node, and all of them lie within the part
-  pub room : (1 ≤ n) × (at + width * n ≤ length l)
-  room = (omega (arith, w.n_is, size_pos w.tree), omega (arith, pending.room w.rest, w.n_is))
+module _ {v : Strip → Answer} {rest : List ℤ} {t : Tree} {found : Answer} (w : Next v rest t found) where
+  -- what is read of it
+  pub strip_sized : Sized (strip_in rest)
+  strip_sized = pending.strip_sized w.holds
+
+  pub counted : T (non_neg (get_or rest count_place (pos 0)))
+  counted = rw (pending.count_is w.holds) tt
+
+  pub front : width ≤ length rest
+  front = omega (arith, pending.room w.holds, size_pos w.tree)
+
+  answer_is : v (strip_in rest) ≡ v (top w.tree)
+  answer_is = ap v (pending.strip_is w.holds)
+
+  module _ {n : ℕ} (e : n ≡ nat_abs (get_or rest count_place (pos 0))) where
+    n_is : n ≡ size w.tree
+    n_is = e ∙ ap nat_abs (pending.count_is w.holds)
+
+    -- it has a node, and all of them lie within the part
+    pub room : (1 ≤ n) × (width * n ≤ length rest)
+    room = (omega (arith, n_is, size_pos w.tree), omega (arith, pending.room w.holds, n_is))
+
+    -- one that is away is done with, and its halves too
+    pub past_away : away ≡ v (strip_in rest) → Sofar v (drop (width * n) rest) t found
+    past_away f = record {
+      low = w.low;
+      pending = w.others;
+      holds = subst (λ (k : ℕ). Rest (drop k rest) 0 w.others) (omega (arith, n_is)) (from rest (0 + width * size w.tree) w.others (pending.past rest 0 w.tree w.others w.holds));
+      joined = omega (arith, w.joined, ap code f, ap code answer_is, closed v w.tree (λ k. omega (arith, k, ap code f, ap code answer_is)));
+    }
+
+    -- a leaf that is maybe is found
+    pub past_leaf : maybe ≡ v (strip_in rest) → n ≡ 1 → Sofar v (drop width rest) t maybe
+    past_leaf f k = record {
+      low = omega arith;
+      pending = w.others;
+      holds = let one : 0 + width * size w.tree ≡ width = omega (arith, n_is, k) in subst (λ (k : ℕ). Rest (drop k rest) 0 w.others) one (from rest (0 + width * size w.tree) w.others (pending.past rest 0 w.tree w.others w.holds));
+      joined = omega (arith, w.joined, w.low, ap code f, ap code answer_is, alone v w.tree (sym n_is ∙ k));
+    }
+
+    -- and settles all where no node answers above that
+    pub leaf_ends : maybe ≡ v (strip_in rest) → n ≡ 1 → code (explore v t) ≤ 1 → maybe ≡ explore v t
+    leaf_ends f k h = same_code maybe (explore v t) (omega (arith, w.joined, ap code f, ap code answer_is, alone v w.tree (sym n_is ∙ k)))
+
+    -- the halves of any other come next
+    pub into_halves : maybe ≡ v (strip_in rest) → (n ≡ 1 → ⊥) → Sofar v (drop width rest) t found
+    unfolding explore
+    into_halves f k = go w.tree w.holds w.joined (f ∙ answer_is) (λ z. k (n_is ∙ z))
+      where
+        go : (u : Tree) → Rest rest 0 (u ∷ w.others) → code (explore v t) ≡ max (code found) (max (code (explore v u)) (told v w.others)) → maybe ≡ v (top u) → (size u ≡ 1 → ⊥) → Sofar v (drop width rest) t found
+        go (leaf s) r j f z = absurd (z refl)
+        go (long s) r j f z = absurd (z refl)
+        go (node s a b) r j f z = record {
+          low = w.low;
+          pending = a ∷ b ∷ w.others;
+          holds = from rest (0 + width) (a ∷ b ∷ w.others) (pending.into rest 0 s a b w.others r);
+          joined = omega (arith, j, open_is (v s) (join (explore v a) (explore v b)) (sym (ap code f)), join_is (explore v a) (explore v b), told_more v a (b ∷ w.others), told_more v b w.others);
+        }
 
   -- one that is inside settles all
-  pub inside_ends : here ≡ 2 → code (explore v t) ≡ 2
-  inside_ends e = omega (arith, w.joined, w.here_is, closed v w.tree (λ k. omega (arith, k, w.here_is, e)), code_few (explore v t))
-
-  -- one that is away is done with, and its halves too
-  pub past_away : {p : ℕ} → p ≡ at + width * n → here ≡ 0 → Sofar v l t found p
-  past_away i e = record {
-    low = w.low;
-    pending = w.others;
-    rest = subst (λ (k : ℕ). Rest l k w.others) (omega (arith, i, w.n_is)) (pending.past l at w.tree w.others w.rest);
-    joined = omega (arith, w.joined, w.here_is, closed v w.tree (λ k. omega (arith, k, w.here_is, e)));
-  }
-
-  -- a leaf that is maybe is found
-  pub past_leaf : {q p : ℕ} → q ≡ 1 → p ≡ at + width → here ≡ 1 → n ≡ 1 → Sofar v l t q p
-  past_leaf j i e k = record {
-    low = omega (arith, j);
-    pending = w.others;
-    rest = subst (λ (k : ℕ). Rest l k w.others) (omega (arith, i, w.n_is, k)) (pending.past l at w.tree w.others w.rest);
-    joined = omega (arith, j, w.joined, w.low, w.here_is, alone v w.tree (sym w.n_is ∙ k));
-  }
-
-  -- and settles all where no node answers above that
-  pub leaf_ends : here ≡ 1 → n ≡ 1 → code (explore v t) ≤ 1 → code (explore v t) ≡ 1
-  leaf_ends e k h = omega (arith, w.joined, w.here_is, alone v w.tree (sym w.n_is ∙ k))
-
-  -- the halves of any other come next
-  pub into_halves : {p : ℕ} → p ≡ at + width → here ≡ 1 → (n ≡ 1 → ⊥) → Sofar v l t found p
-  unfolding explore
-  into_halves {p} i e k = go w.tree w.rest w.joined (sym w.here_is ∙ e) (λ z. k (w.n_is ∙ z))
-    where
-      go : (u : Tree) → Rest l at (u ∷ w.others) → code (explore v t) ≡ max found (max (code (explore v u)) (told v w.others)) → code (v (top u)) ≡ 1 → (size u ≡ 1 → ⊥) → Sofar v l t found p
-      go (leaf s) r j f z = absurd (z refl)
-      go (long s) r j f z = absurd (z refl)
-      go (node s a b) r j f z = record {
-        low = w.low;
-        pending = a ∷ b ∷ w.others;
-        rest = subst (λ (k : ℕ). Rest l k (a ∷ b ∷ w.others)) (sym i) (pending.into l at s a b w.others r);
-        joined = omega (arith, j, open_is (v s) (join (explore v a) (explore v b)) f, join_is (explore v a) (explore v b), told_more v a (b ∷ w.others), told_more v b w.others);
-      }
+  pub inside_ends : inside ≡ v (strip_in rest) → inside ≡ explore v t
+  inside_ends f = same_code inside (explore v t) (omega (arith, w.joined, ap code f, ap code answer_is, closed v w.tree (λ k. omega (arith, k, ap code f, ap code answer_is)), code_few (explore v t)))

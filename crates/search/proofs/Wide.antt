@@ -14,10 +14,10 @@ use Rattle.integers.specs.Absolute.{absℤ, abs_nonneg}
 use Rattle.integers.specs.Signed.{nonneg}
 use Rattle.model.specs.Strips.{Side}
 use Rattle.model.specs.Explore.{farthest, is_inside, by_tests, judged}
+use Rattle.strip_tests.specs.Answers.{code_few}
 use Rattle.strip_tests.specs.PlainTests.{code}
 use Rattle.ranges.specs.Sizes.{SideSized}
 use Rattle.search.specs.Probes.{cell_at, Enough}
-use Rattle.search.proofs.Finds.{code_few}
 
 -- the farthest is at least the half side
 far : (w p b s : ℤ) → pos 0 ≼ w → pos 0 ≼ p → pos 0 ≼ b → pos 0 ≼ s → s *ℤ s ≼ (w +ℤ p +ℤ (b +ℤ s)) *ℤ (w +ℤ p +ℤ (b +ℤ s))

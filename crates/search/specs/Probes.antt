@@ -5,6 +5,7 @@ use Rattle.model.specs.Strips.{Strip}
 use Rattle.model.specs.Explore.{Cell, Answer, judged}
 use Rattle.ranges.specs.Sizes.{Sized}
 use Rattle.strip_tests.specs.Limits.{ReachSized}
+use Rattle.strip_tests.specs.Answers.{meaning}
 use Rattle.strip_tests.specs.PlainTests.{code}
 use Rattle.search.specs.declared.Probe.{Probe}
 
@@ -30,4 +31,4 @@ Enough x y s r e = (S : Strip) → Sized S → code (judged r (cell_at x y s) S)
 -- what is asked of a probe
 pub record Fair (p : Probe) : Type 0 where
   pub cell : CellSized p.x p.y p.s p.r
-  pub stop : Enough p.x p.y p.s p.r p.enough
+  pub stop : Enough p.x p.y p.s p.r (code (meaning p.enough))

@@ -1,17 +1,18 @@
--- What a stretch holds, and the sizes within which its ends are found. Assumes nothing.
-use Rattle.std.specs.Prelude.{◌≡◌, Bool, ◌&&◌, ℕ, ◌≤◌, ◌<◌, ◌^◌, T, leb, ltb, ℤ, nat_abs}
-use Rattle.std.specs.Int.Signed.{non_neg}
+-- What a stretch holds, and the steps by which its ends are found. Assumes nothing.
+use Rattle.std.specs.Prelude.{Bool, ◌&&◌, ℕ, ◌≤◌, ◌<◌, ◌^◌, leb, ltb}
 use Rattle.spans.specs.declared.Span.{Span}
 use Rattle.spans.specs.declared.Step.{Step}
+use Rattle.spans.specs.declared.Step.TheVariants.{Length, PowerOfTwo}
 
 -- i is one of the stretch
 abbrev pub among : Span → ℕ → Bool
 among c i = leb c.lo i && ltb i c.hi
 
--- a place and a step above 0
-pub record StepSized (v : ℤ) (s : Step) : Type 0 where
-  pub v_size : nat_abs v ≤ 4611686018427387904
-  pub d_nonneg : T (non_neg s.d)
-  pub d_above : 0 < nat_abs s.d
-  pub d_size : nat_abs s.d ≤ 1152921504606846976
-  pub power : s.k < 64 → nat_abs s.d ≡ 2 ^ s.k
+abbrev pub length_of : Step → ℕ
+length_of (Length d) = d
+length_of (PowerOfTwo k) = 2 ^ k
+
+-- above 0 and at most 2^60
+abbrev pub StepSized : Step → Type 0
+StepSized (Length d) = (0 < d) × (d ≤ 1152921504606846976)
+StepSized (PowerOfTwo k) = k ≤ 60

@@ -10,7 +10,7 @@ use lib.Dec.{ltb, leb, leb→le, le→leb}
 use lib.IntN.{ℤ, pos, negsuc, nat_abs, ◌*ℤ◌}
 use lib.Signed.{lt_z, le_z, quot_z}
 use Rattle.integers.specs.Tests.{alike}
-use Rattle.strip_tests.specs.PlainTests.{cap_by}
+use Rattle.std.specs.Int.{int_min}
 use Rattle.verdicts.specs.AnswerCases.{clash}
 use Rattle.model.specs.Roots.{root}
 use Rattle.verdicts.specs.Roots.{root_reaches, root_least}
@@ -26,21 +26,21 @@ quotient_down : (n d l : ℕ) → l ≤ n / d → d * l ≤ n
 quotient_down n d l k = let m : d * l ≤ d * (n / d) = mul-le-mul (le_refl d) k in omega (arith, div-add-mod' n d)
 
 abbrev pub capped : ℕ → ℕ
-capped j = cond (ltb j 1073741824) j 1073741824
+capped j = cond (ltb 1073741824 j) 1073741824 j
 
 capped_up : (l j : ℕ) → l ≤ 1073741824 → l ≤ j → l ≤ capped j
-capped_up l j h k = go (ltb j 1073741824)
+capped_up l j h k = go (ltb 1073741824 j)
   where
-    go : (t : Bool) → l ≤ cond t j 1073741824
-    go true = k
-    go false = h
+    go : (t : Bool) → l ≤ cond t 1073741824 j
+    go true = h
+    go false = k
 
 capped_down : (j : ℕ) → capped j ≤ j
-capped_down j = go (ltb j 1073741824) refl
+capped_down j = go (ltb 1073741824 j) refl
   where
-    go : (t : Bool) → ltb j 1073741824 ≡ t → cond t j 1073741824 ≤ j
-    go true e = le_refl j
-    go false e = ltb-false j 1073741824 e
+    go : (t : Bool) → ltb 1073741824 j ≡ t → cond t 1073741824 j ≤ j
+    go true e = omega (arith, ltb-true 1073741824 j e)
+    go false e = le_refl j
 
 pub beyond_law : (n d m : ℕ) → 0 < d → m ≤ 1152921504606846976 → leb m (capped (n / d) * capped (n / d)) ≡ leb (d * root m) n
 beyond_law n d m hd hm = alike (leb m (k * k)) (leb (d * root m) n)
@@ -67,24 +67,27 @@ short_law n d m low h k = alike (leb (d * root m) n) false (λ t. omega (arith, 
     l = mul-le-mul (le_refl d) (root_of low (root m) (le_trans h (root_reaches m)))
 
 -- ---- over ℤ, as the code has them
-cap_pos : (j : ℕ) → cap_by (pos j) ≡ pos (capped j)
-cap_pos j = go (ltb j 1073741824)
+abbrev pub cap : ℤ → ℤ
+cap z = int_min z (pos 1073741824)
+
+cap_pos : (j : ℕ) → cap (pos j) ≡ pos (capped j)
+cap_pos j = go (ltb 1073741824 j)
   where
-    go : (t : Bool) → cond t (pos j) (pos 1073741824) ≡ pos (cond t j 1073741824)
+    go : (t : Bool) → cond t (pos 1073741824) (pos j) ≡ pos (cond t 1073741824 j)
     go true = refl
     go false = refl
 
 capped_size : (j : ℕ) → capped j ≤ 1073741824
-capped_size j = go (ltb j 1073741824) refl
+capped_size j = go (ltb 1073741824 j) refl
   where
-    go : (t : Bool) → ltb j 1073741824 ≡ t → cond t j 1073741824 ≤ 1073741824
-    go true e = omega (arith, ltb-true j 1073741824 e)
-    go false e = omega arith
+    go : (t : Bool) → ltb 1073741824 j ≡ t → cond t 1073741824 j ≤ 1073741824
+    go true e = omega arith
+    go false e = ltb-false 1073741824 j e
 
 -- what the quotient's square tells of x, once low has let it pass
 pub record Asked (x : ℤ) (d m : ℕ) : Type 0 where
-  pub size : nat_abs (cap_by (quot_z x (pos d))) ≤ 1073741824
-  pub answer : le_z (pos m) (cap_by (quot_z x (pos d)) *ℤ cap_by (quot_z x (pos d))) ≡ le_z (pos d *ℤ pos (root m)) x
+  pub size : nat_abs (cap (quot_z x (pos d))) ≤ 1073741824
+  pub answer : le_z (pos m) (cap (quot_z x (pos d)) *ℤ cap (quot_z x (pos d))) ≡ le_z (pos d *ℤ pos (root m)) x
 
 pub asked : (x : ℤ) (d m low : ℕ) → 0 < d → m ≤ 1152921504606846976 → lt_z x (pos d *ℤ pos low) ≡ false → Asked x d m
 asked (pos n) d m low h k e = record {

@@ -20,12 +20,6 @@ inside_by ax ay ex ey r = lt_z (squares (ax +ℤ ex) (ay +ℤ ey)) (r *ℤ r)
 abbrev pub excess_by : ℤ → ℤ → ℤ
 excess_by a e = cond (lt_z a e) (pos 0) (a -ℤ e)
 
-abbrev pub most_by : ℤ → ℤ → ℤ
-most_by a b = cond (lt_z a b) b a
-
-abbrev pub cap_by : ℤ → ℤ
-cap_by k = cond (lt_z k (pos 1073741824)) k (pos 1073741824)
-
 abbrev pub apart_by : ℤ → ℤ → ℤ → ℤ → ℤ → Bool
 apart_by ax ay ex ey r = le_z (r *ℤ r) (squares (excess_by ax ex) (excess_by ay ey))
 
@@ -54,7 +48,7 @@ less : (w p a : ℤ) → w -ℤ (p +ℤ a) ≡ w -ℤ p -ℤ a
 less w p a = name₃ w p a λ σ x y z. simp (x, y, z, reify) (close σ _ _ ok)
 
 -- 0 if negative, by a test
-excess_is : (z : ℤ) (a e : ℤ) → a -ℤ e ≡ z → (t : Bool) → lt_z a e ≡ t → cond t (pos 0) z ≡ at_least0 z
+pub excess_is : (z : ℤ) (a e : ℤ) → a -ℤ e ≡ z → (t : Bool) → lt_z a e ≡ t → cond t (pos 0) z ≡ at_least0 z
 excess_is (pos n) a e h true k = let l : a ≺ e = lt_z_yes (subst T (sym k) tt) in ap pos (zero_of n (from (l & h & num n) (name₃ a e (pos n) λ σ x y z. simp (x, y, z, reify, σ) (omega zarith))))
   where
     zero_of : (n : ℕ) → ⊥ → 0 ≡ n

@@ -1,37 +1,21 @@
-// What one strip says of one cell, in 64-bit numbers and with no square root. Taken apart into the tests of RULES, "Explore",
-// each over plain numbers: w from the strip's centre to the cell's, the axis (p, q), the box halves with the half side.
+// What one strip says of one cell, in 64-bit numbers and with no square root. Taken apart into the tests of RULES, "Explore".
 #![tactic(auto)]
 
-ghost use Rattle.std.specs.Prelude.{◌≡◌, ◌≤◌, nat_abs};
-ghost use Rattle.model.specs.Jobs.{is_zero};
-ghost use Rattle.strip_tests.specs.PlainTests.{inside_by, apart_by, excess_by, most_by, cap_by, is_beyond, slanted_by, judge_by, code};
+ghost use Rattle.std.specs.Prelude.{◌≡◌};
+ghost use Rattle.strip_tests.specs.Answers.{meaning};
+ghost use Rattle.strip_tests.specs.PlainTests.{inside_by, apart_by, is_beyond, slanted_by, judge_by};
 ghost use Rattle.strip_tests.specs.Limits.{SpanSized, CrossSized, NodeSized};
 
-use rounding::abs;
-
-// the larger of two
-fn most(a: i64, b: i64) -> i64
-    ensures larger { result ≡ most_by a b }
-{
-    if a < b { b } else { a }
+// What a strip says of a cell. In this order, joined, the later holds.
+#[derive(Clone, Copy, Debug, PartialEq, Eq)]
+pub enum Answer {
+    Away,
+    Maybe,
+    Inside,
 }
 
-// what a is above e, or 0
-fn excess(a: i64, e: i64) -> i64
-    requires sizes { (nat_abs a ≤ 1073741824) × (nat_abs e ≤ 1073741824) }
-    ensures over { result ≡ excess_by a e }
-{
-    if a < e { 0 } else { a - e }
-}
-
-// no axis is longer than 2^30, and the square of a larger number would leave 64 bits
-fn cap(k: i64) -> i64
-    ensures capped { result ≡ cap_by k }
-{
-    if k < 1073741824 { k } else { 1073741824 }
-}
-
-// every point of the cell is nearer than the reach
+// Every point of the cell is nearer than the reach. This test and the next take plain numbers and no `Side`: `columns` asks them of a row's cells,
+// whose numbers come from another view.
 pub fn inside(ax: i64, ay: i64, ex: i64, ey: i64, r: i64) -> bool
     requires sizes { SpanSized ax ay ex ey r }
     ensures told { result ≡ inside_by ax ay ex ey r }
@@ -48,23 +32,19 @@ pub fn apart(ax: i64, ay: i64, ex: i64, ey: i64, r: i64) -> bool
     requires sizes { SpanSized ax ay ex ey r }
     ensures told { result ≡ apart_by ax ay ex ey r }
 {
-    let gx = excess(ax, ex);
-    let gy = excess(ay, ey);
+    let gx = (ax - ex).max(0);
+    let gy = (ay - ey).max(0);
     let near = gx * gx + gy * gy;
     let reach = r * r;
     reach <= near
 }
 
-// an axis (0, 0), and no other, has squares that add up to 0
-fn no_axis(pp: i64) -> bool
-    ensures told { result ≡ is_zero pp }
-{
-    pp == 0
-}
+// no axis is longer than 2^30, and the square of a larger number would leave 64 bits
+const LONGEST: i64 = 1 << 30;
 
 // cross >= r * L, with L the root of pp rounded up: just where pp is at most the square of cross / r. low is a whole number up to L: most
-// calls end at it, without a division. Across an axis (0, 0) no cell is away; that is asked behind the division, which keeps pp off the
-// way of most calls
+// calls end at it, without a division. Across an axis (0, 0), and no other has squares that add up to 0, no cell is away; that is asked behind
+// the division, which keeps pp off the way of most calls
 fn beyond(cross: i64, r: i64, low: i64, pp: i64) -> bool
     requires sizes { CrossSized cross r low pp }
     ensures told { result ≡ is_beyond cross r pp }
@@ -72,37 +52,43 @@ fn beyond(cross: i64, r: i64, low: i64, pp: i64) -> bool
     if cross < r * low {
         return false;
     }
-    let k = cap(cross / r);
-    if no_axis(pp) {
-        return false;
-    }
-    pp <= k * k
+    let k = (cross / r).min(LONGEST);
+    let no_axis = pp == 0;
+    !no_axis && pp <= k * k
 }
 
-fn slanted(wx: i64, wy: i64, p: i64, q: i64, a: i64, b: i64, r: i64) -> bool
-    requires sizes { NodeSized wx wy p q a b r }
-    ensures told { result ≡ slanted_by wx wy p q a b r }
-{
-    let ap = abs(p);
-    let aq = abs(q);
-    let cross = abs(wx * q - wy * p) - a * aq - b * ap;
-    beyond(cross, r, most(ap, aq), p * p + q * q)
+// A strip as a cell sees it, in one coordinate: w from the strip's centre to the cell's, the axis, and half the box with the cell's half side.
+#[derive(Clone, Copy)]
+pub struct Side {
+    pub w: i64,
+    pub axis: i64,
+    pub half: i64,
 }
 
-// the strip's answer: 0 away, 1 maybe, 2 inside
-pub fn judge(wx: i64, wy: i64, p: i64, q: i64, a: i64, b: i64, r: i64) -> u8
-    requires sizes { NodeSized wx wy p q a b r }
-    ensures answer { result ≡ code (judge_by wx wy p q a b r) }
+fn slanted(x: Side, y: Side, r: i64) -> bool
+    requires sizes { NodeSized x.w y.w x.axis y.axis x.half y.half r }
+    ensures told { result ≡ slanted_by x.w y.w x.axis y.axis x.half y.half r }
 {
-    let ax = abs(wx);
-    let ay = abs(wy);
-    let ex = abs(p) + a;
-    let ey = abs(q) + b;
+    let p = x.axis.abs();
+    let q = y.axis.abs();
+    let cross = (x.w * y.axis - y.w * x.axis).abs() - x.half * q - y.half * p;
+    beyond(cross, r, p.max(q), x.axis * x.axis + y.axis * y.axis)
+}
+
+// the strip's answer
+pub fn judge(x: Side, y: Side, r: i64) -> Answer
+    requires sizes { NodeSized x.w y.w x.axis y.axis x.half y.half r }
+    ensures answer { meaning result ≡ judge_by x.w y.w x.axis y.axis x.half y.half r }
+{
+    let ax = x.w.abs();
+    let ay = y.w.abs();
+    let ex = x.axis.abs() + x.half;
+    let ey = y.axis.abs() + y.half;
     if inside(ax, ay, ex, ey, r) {
-        return 2;
+        Answer::Inside
+    } else if apart(ax, ay, ex, ey, r) || slanted(x, y, r) {
+        Answer::Away
+    } else {
+        Answer::Maybe
     }
-    if apart(ax, ay, ex, ey, r) {
-        return 0;
-    }
-    if slanted(wx, wy, p, q, a, b, r) { 0 } else { 1 }
 }

@@ -1,10 +1,12 @@
--- `drawing::draw` meets its contract: a settled block is filled, and any other is drawn in quarters. Assumes nothing.
-use Rattle.std.proofs.Common.{◌≡◌, List, ℕ, ◌+◌, ◌*◌, ◌/◌, ◌≤◌, ℤ, length, take, arith}
+-- A settled block is filled, and any other is drawn in quarters.
+use Rattle.std.proofs.Common.{◌≡◌, List, ℕ, ◌+◌, ◌*◌, ◌/◌, ◌≤◌, ◌<◌, ℤ, length, take, arith, subst}
+use Rattle.filling.specs.Squares.{over, Drawn}
 use native.Mathlib.Nat.{le_trans, mul-le-mul_right}
 use Rattle.model.specs.Trees.{Tree}
 use Rattle.inheritance.specs.Edges.{opened, opened_inherits}
 use Rattle.open_edges.specs.Starts.{StillOpen}
 use Rattle.columns.specs.declared.Frame.{Frame}
+use Rattle.drawing.specs.declared.Block.{Block}
 use Rattle.drawing.specs.Letters.{way_of, asked, own_letter}
 use Rattle.drawing.specs.Ready.{Ready}
 use Rattle.drawing.proofs.Settles.{letter_open}
@@ -15,67 +17,67 @@ use Rattle.drawing.proofs.+draw.Goals as goal
 space : (y h e n l : ℕ) → y + h ≤ e → e * n ≤ l → (y + h) * n ≤ l
 space y h e n l k f = le_trans (mul-le-mul_right n k) f
 
--- a block that is not settled, with the trees that are kept
-module _ {store : List ℤ} {list keep : List ℕ} {count kept : ℕ} {f : Frame} {c r w : ℕ} (ready : Ready store list count f c r w) (long : length keep ≡ 64)
-    (rest : (w ≡ 1 → ⊥) × StillOpen (asked f c r w) store (take count list) count kept keep) where
-  halves : Halved w
-  halves = halved w ready.power rest.0
+-- what was drawn into a block, named by its numbers
+drawn : (g : ℕ → ℕ → ℕ) {n : ℕ} {new old : List ℕ} {q b : Block} → q ≡ b → Drawn n new old (over g q.c q.r q.w) → Drawn n new old (over g b.c b.r b.w)
+drawn g {n} {new} {old} e d = subst (λ (b : Block). Drawn n new old (over g b.c b.r b.w)) e d
 
-  quarter : (x y : ℕ) → x + w / 2 ≤ f.n → y + w / 2 ≤ f.n → Ready store keep kept f x y (w / 2)
-  quarter x y hx hy = ready_quarter ready keep kept long rest.1.fewer rest.1.still x y (w / 2) halves.power hx hy
+-- a block that is not settled, with the trees that are kept
+module _ {store : List ℤ} {list keep : List ℕ} {kept : ℕ} {f : Frame} {b : Block} (ready : Ready store list f b) (rest : (b.w ≡ 1 → ⊥) × StillOpen (asked f b.c b.r b.w) store list (length list) kept keep) where
+  halves : Halved b.w
+  halves = halved b.w ready.power rest.0
+
+  -- what drawing its quarter at column x and row y asks for, with room for the block's rows
+  quarter : {t room : ℕ} → b.w ≡ t → (b.r + b.w) * f.n ≤ room → (x y : ℕ) → x + b.w / 2 ≤ b.c + b.w → y + b.w / 2 ≤ b.r + b.w → {q : Block} → q ≡ record { c = x; r = y; w = b.w / 2 } → (q.w < t) × (Ready store (take kept keep) f q × ((q.r + q.w) * f.n ≤ room))
+  quarter {t} {room} m s x y hx hy e =
+      rw e (
+        omega (arith, m, halves.less),
+        (ready_quarter ready keep kept rest.1 x y (b.w / 2) halves.power (omega (arith, hx, ready.columns_fit)) (omega (arith, hy, ready.rows_fit)), space y (b.w / 2) (b.r + b.w) f.n room hy s),
+      )
 
 pub draw-requires : goal.draw-requires
 draw-requires t c =
-    let s = c.settle-told in
+    let b = c.args.block in
     let p = c.requires.ready in
-    let rest = s.ensures.open c.if-letter-ne0.false in
-    let h = halves p s.ensures.long rest in (
-      omega (arith, c.decreases, h.less),
-      (quarter p s.ensures.long rest c.args.c c.args.r (omega (arith, h.whole, p.columns_fit)) (omega (arith, h.whole, p.rows_fit)), space c.args.r (c.args.w / 2) (c.args.r + c.args.w) c.args.frame.n _ (omega (arith, h.whole)) c.requires.space),
-    )
+    let rest = c.in-Open.ensures.told in
+    let h = halves p rest in
+    quarter p rest c.decreases c.requires.space b.c b.r (omega (arith, h.whole)) (omega (arith, h.whole)) c.quarter.ensures.quarter
 
-pub draw-requires-2 : goal.draw-requires-2
-draw-requires-2 t c =
-    let s = c.settle-told in
+pub draw-requires-in-Open : goal.draw-requires-in-Open
+draw-requires-in-Open t c =
+    let b = c.args.block in
     let p = c.requires.ready in
-    let rest = s.ensures.open c.if-letter-ne0.false in
-    let h = halves p s.ensures.long rest in (
-      omega (arith, c.decreases, h.less),
-      (quarter p s.ensures.long rest (c.args.c + c.args.w / 2) c.args.r (omega (arith, h.whole, p.columns_fit)) (omega (arith, h.whole, p.rows_fit)), space c.args.r (c.args.w / 2) (c.args.r + c.args.w) c.args.frame.n _ (omega (arith, h.whole)) (omega (arith, c.requires.space, c.draw.auto.map))),
-    )
+    let rest = c.in-Open.ensures.told in
+    let h = halves p rest in
+    quarter p rest c.decreases (omega (arith, c.requires.space, c.draw.auto.map)) (b.c + b.w / 2) b.r (omega (arith, h.whole)) (omega (arith, h.whole)) c.quarter-in-Open.ensures.quarter
 
-pub draw-requires-3 : goal.draw-requires-3
-draw-requires-3 t c =
-    let s = c.settle-told in
+pub draw-requires-in-Open-2 : goal.draw-requires-in-Open-2
+draw-requires-in-Open-2 t c =
+    let b = c.args.block in
     let p = c.requires.ready in
-    let rest = s.ensures.open c.if-letter-ne0.false in
-    let h = halves p s.ensures.long rest in (
-      omega (arith, c.decreases, h.less),
-      (quarter p s.ensures.long rest c.args.c (c.args.r + c.args.w / 2) (omega (arith, h.whole, p.columns_fit)) (omega (arith, h.whole, p.rows_fit)), space (c.args.r + c.args.w / 2) (c.args.w / 2) (c.args.r + c.args.w) c.args.frame.n _ (omega (arith, h.whole)) (omega (arith, c.requires.space, c.draw.auto.map, c.draw-2.auto.map))),
-    )
+    let rest = c.in-Open.ensures.told in
+    let h = halves p rest in
+    quarter p rest c.decreases (omega (arith, c.requires.space, c.draw.auto.map, c.draw-in-Open.auto.map)) b.c (b.r + b.w / 2) (omega (arith, h.whole)) (omega (arith, h.whole)) c.quarter-in-Open-2.ensures.quarter
 
-pub draw-requires-4 : goal.draw-requires-4
-draw-requires-4 t c =
-    let s = c.settle-told in
+pub draw-requires-in-Open-3 : goal.draw-requires-in-Open-3
+draw-requires-in-Open-3 t c =
+    let b = c.args.block in
     let p = c.requires.ready in
-    let rest = s.ensures.open c.if-letter-ne0.false in
-    let h = halves p s.ensures.long rest in (
-      omega (arith, c.decreases, h.less),
-      (quarter p s.ensures.long rest (c.args.c + c.args.w / 2) (c.args.r + c.args.w / 2) (omega (arith, h.whole, p.columns_fit)) (omega (arith, h.whole, p.rows_fit)), space (c.args.r + c.args.w / 2) (c.args.w / 2) (c.args.r + c.args.w) c.args.frame.n _ (omega (arith, h.whole)) (omega (arith, c.requires.space, c.draw.auto.map, c.draw-2.auto.map, c.draw-3.auto.map))),
-    )
+    let rest = c.in-Open.ensures.told in
+    let h = halves p rest in
+    quarter p rest c.decreases (omega (arith, c.requires.space, c.draw.auto.map, c.draw-in-Open.auto.map, c.draw-in-Open-2.auto.map)) (b.c + b.w / 2) (b.r + b.w / 2) (omega (arith, h.whole)) (omega (arith, h.whole)) c.quarter-in-Open-3.ensures.quarter
 
-pub returns : goal.returns
-returns t c = record {
+pub returns-in-Open : goal.returns-in-Open
+returns-in-Open t c = record {
   letters = λ ts h each.
-      let s = c.settle-told in
       let a = c.args in
+      let b = a.block in
       let p = c.requires.ready in
-      let rest = s.ensures.open c.if-letter-ne0.false in
-      let us : List Tree = opened (asked a.frame a.c a.r a.w) ts in
+      let rest = c.in-Open.ensures.told in
+      let us : List Tree = opened (asked a.frame b.c b.r b.w) ts in
       let hu = rest.1.still ts h in
-      let eu = opened_inherits (way_of a.frame) (asked a.frame a.c a.r a.w) ts each in
-      drawn_agree a.frame.n c.draw-4.new.map a.map.now (own_letter a.frame us) (own_letter a.frame ts) a.c a.r a.w
-      (drawn_quarters a.frame.n a.map.now c.draw.new.map c.draw-2.new.map c.draw-3.new.map c.draw-4.new.map (own_letter a.frame us) a.c a.r a.w (a.w / 2) (halves p s.ensures.long rest).whole
-      (c.draw.ensures.letters us hu eu) (c.draw-2.ensures.letters us hu eu) (c.draw-3.ensures.letters us hu eu) (c.draw-4.ensures.letters us hu eu))
-      (λ i j m. letter_open a.frame p.frame_sized.q_nonneg ts each a.c a.r a.w i j m);
+      let eu = opened_inherits (way_of a.frame) (asked a.frame b.c b.r b.w) ts each in
+      drawn_agree a.frame.n c.draw-in-Open-3.new.map a.map.now (own_letter a.frame us) (own_letter a.frame ts) b.c b.r b.w
+      (drawn_quarters a.frame.n a.map.now c.draw.new.map c.draw-in-Open.new.map c.draw-in-Open-2.new.map c.draw-in-Open-3.new.map (own_letter a.frame us) b.c b.r b.w (b.w / 2) (halves p rest).whole
+      (drawn (own_letter a.frame us) c.quarter.ensures.quarter (c.draw.ensures.letters us hu eu)) (drawn (own_letter a.frame us) c.quarter-in-Open.ensures.quarter (c.draw-in-Open.ensures.letters us hu eu)) (drawn (own_letter a.frame us) c.quarter-in-Open-2.ensures.quarter (c.draw-in-Open-2.ensures.letters us hu eu)) (drawn (own_letter a.frame us) c.quarter-in-Open-3.ensures.quarter (c.draw-in-Open-3.ensures.letters us hu eu)))
+      (λ i j m. letter_open a.frame p.frame_sized.q_nonneg ts each b.c b.r b.w i j m);
 }

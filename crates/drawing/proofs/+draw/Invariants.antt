@@ -2,4 +2,4 @@
 use Rattle.drawing.proofs.+draw.Given as goal
 
 abbrev pub decreases-draw : goal.decreases-draw
-decreases-draw l = l.w
+decreases-draw l = l.block.w
