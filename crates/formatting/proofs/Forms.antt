@@ -1,16 +1,9 @@
--- The needs of `put_form`: one turn of its loop is one step of `write_form`. Assumes nothing.
-use mathlib.Core.Path.{◌≡◌, refl, sym, ap, ap₂, ◌∙◌, subst}
-use mathlib.Core.List.{List, [], ◌∷◌, ◌++◌, append_assoc, append-nil}
-use Prim.Native.Nat.{ℕ, suc, ◌+◌, ◌*◌, ◌^◌, ◌≤◌, ◌<◌}
-use native.Mathlib.Numerals.{add-one}
-use native.Mathlib.Omega.{arith}
-use mir.Syntax.{w32, w64}
-use mir.Val.{Fits, to_z, of_z}
-use mir.ValLaws.{to_z-of_z}
-use lib.Dec.{eqb}
-use lib.IntN.{ℤ, pos}
-use lib.ListN.{length, get_or, drop, drop_of_length-le}
-use lib.Seq.{drop-cons}
+-- The needs of `put_form`: a turn of its loop is a step of `write_form`. Assumes nothing.
+use Rattle.std.proofs.Common.{◌≡◌, refl, sym, ap, ap₂, ◌∙◌, subst, List, [], ◌∷◌, ◌++◌, append_assoc, append-nil, ℕ, suc, ◌+◌, ◌≤◌, ◌<◌, add-one, arith, w32, to_z, of_z, length, get_or, drop}
+use Rattle.std.specs.Prelude.{eqb, ℤ, pos}
+use Rattle.std.proofs.lemmas.Int.{to_z-of_z}
+use Rattle.std.proofs.Math.ListN.{drop_of_length-le}
+use Rattle.std.proofs.Math.Seq.{drop-cons}
 use borrow.Author.Tests.{ne_eqb}
 use Rattle.model.specs.Numbers.{text}
 use Rattle.model.specs.Forms.{write_form}
@@ -18,7 +11,7 @@ use Rattle.sheet_text.specs.Tests.{no}
 use Rattle.sheet_text.specs.Numbers.{Small, text_long}
 use Rattle.sheet_text.specs.Forms.{marks, weight, AllSmall, form_long}
 use Rattle.formatting.specs.Puts.{Put}
-use Rattle.formatting.specs.Texts.{put_then, put_none, small_fits, small_again}
+use Rattle.formatting.specs.Texts.{put_then, small_fits, small_again}
 
 -- ---- steps of the definitions
 module _ (fs : List ℕ) where
@@ -47,46 +40,32 @@ module _ (fs : List ℕ) where
     unfolding weight
     weight_byte = rw (ne_eqb f 35 h)
 
--- ---- at j of the form and k of the numbers, with t written
-pub record Going (form : List ℕ) (values : List ℤ) (start : List ℕ) (at from : ℕ) (out : List ℕ) (i k j : ℕ) : Type 0 where
+-- ---- at j of the form and k of the numbers: what is written with what is to come is the whole, and there is room for the rest
+pub record Going (form : List ℕ) (values : List ℤ) (start : List ℕ) (at : ℕ) (out : List ℕ) (i k j : ℕ) : Type 0 where
   pub t : List ℕ
   pub placed : Put start out at i t
-  pub same : write_form form (drop from values) ≡ t ++ write_form (drop j form) (drop k values)
+  pub same : write_form form values ≡ t ++ write_form (drop j form) (drop k values)
   pub room : i + weight (drop j form) ≤ length out
   pub left : k + marks (drop j form) ≤ length values
-  pub within : j ≤ length form
-  pub long : length out ≡ length start
 
-pub starts : (form : List ℕ) (values : List ℤ) (out : List ℕ) (at from : ℕ) → at + weight form ≤ length out → from + marks form ≤ length values → Going form values out at from out at from 0
-starts form values out at from r l = record { t = []; placed = put_none out at; same = refl; room = r; left = l; within = omega arith; long = refl }
-
-module _ (form : List ℕ) (values : List ℤ) (start : List ℕ) (at from : ℕ) (out : List ℕ) (i k j : ℕ) (g : Going form values start at from out i k j) where
-  pub ends : length form ≤ j → Put start out at i (write_form form (drop from values))
+module _ (form : List ℕ) (values : List ℤ) (start : List ℕ) (at : ℕ) (out : List ℕ) (i k j : ℕ) (g : Going form values start at out i k j) where
+  pub ends : length form ≤ j → Put start out at i (write_form form values)
   unfolding write_form
   ends h = subst (Put start out at i) (sym (g.same ∙ ap (λ u. g.t ++ write_form u (drop k values)) (drop_of_length-le form h) ∙ append-nil g.t)) g.placed
 
   pub ends_by : length form ≤ j → i ≤ at + weight form
-  ends_by h = omega (arith, (ends h).next_is, form_long form (drop from values))
+  ends_by h = omega (arith, (ends h).next_is, form_long form values)
 
-  pub same_long : length out ≡ length start
-  same_long = g.long
+  module _ (l : j < length form) where
+    here : drop j form ≡ get_or form j 0 ∷ drop (j + 1) form
+    here = drop-cons form j 0 l ∙ ap (λ n. get_or form j 0 ∷ drop n form) (sym (add-one j))
 
-  module _ (f : ℕ) (e : f ≡ get_or form j 0) (l : j < length form) where
-    here : drop j form ≡ f ∷ drop (j + 1) form
-    here = drop-cons form j 0 l ∙ ap₂ ◌∷◌ (sym e) (ap (λ n. drop n form) (sym (add-one j)))
-
-    module _ (q : f ≡ 35) where
+    module _ (q : get_or form j 0 ≡ 35) where
       mark : drop j form ≡ 35 ∷ drop (j + 1) form
       mark = here ∙ ap (λ u. u ∷ drop (j + 1) form) q
 
       pub has_value : k < length values
       has_value = omega (arith, g.left, ap marks mark ∙ marks_mark (drop (j + 1) form))
-
-      pub next_value : length values < 2 ^ 64 → Fits w64 (k + 1)
-      next_value h = omega (arith, has_value)
-
-      pub offset : length values * 4 < 2 ^ 63 → Fits w64 (k * 4)
-      offset h = omega (arith, has_value)
 
       pub number_room : i + 8 ≤ length out
       number_room = omega (arith, g.room, ap weight mark ∙ weight_mark (drop (j + 1) form))
@@ -95,7 +74,7 @@ module _ (form : List ℕ) (values : List ℤ) (start : List ℕ) (at from : ℕ
       unfolding AllSmall
       number_small a = small_again (get_or values k (pos 0)) (a k)
 
-      pub number_on : (next : List ℕ) (n : ℕ) → AllSmall values → Put out next i n (text (to_z w32 (of_z w32 (get_or values k (pos 0))))) → length next ≡ length out → Going form values start at from next n (k + 1) (j + 1)
+      pub number_on : (next : List ℕ) (n : ℕ) → AllSmall values → Put out next i n (text (to_z w32 (of_z w32 (get_or values k (pos 0))))) → length next ≡ length out → Going form values start at next n (k + 1) (j + 1)
       unfolding AllSmall
       number_on next n a p m =
           let v = get_or values k (pos 0) in
@@ -109,27 +88,20 @@ module _ (form : List ℕ) (values : List ℤ) (start : List ℕ) (at from : ℕ
                 ∙ sym (append_assoc g.t (text v) (write_form (drop (j + 1) form) (drop (k + 1) values)));
             room = omega (arith, g.room, ap weight mark ∙ weight_mark (drop (j + 1) form), o.next_is, text_long v, m);
             left = omega (arith, g.left, ap marks mark ∙ marks_mark (drop (j + 1) form));
-            within = omega arith;
-            long = m ∙ g.long;
           }
 
-    module _ (q : f ≡ 35 → ⊥) where
+    module _ (q : get_or form j 0 ≡ 35 → ⊥) where
       pub byte_room : i < length out
-      byte_room = omega (arith, g.room, ap weight here ∙ weight_byte (drop (j + 1) form) f q)
+      byte_room = omega (arith, g.room, ap weight here ∙ weight_byte (drop (j + 1) form) (get_or form j 0) q)
 
-      pub byte_on : (next : List ℕ) (n : ℕ) → Put out next i n (f ∷ []) → length next ≡ length out → Going form values start at from next n k (j + 1)
+      pub byte_on : (next : List ℕ) (n : ℕ) → Put out next i n (get_or form j 0 ∷ []) → length next ≡ length out → Going form values start at next n k (j + 1)
       byte_on next n p m = record {
-        t = g.t ++ (f ∷ []);
-        placed = put_then start out next at i n g.t (f ∷ []) g.placed p;
+        t = g.t ++ (get_or form j 0 ∷ []);
+        placed = put_then start out next at i n g.t (get_or form j 0 ∷ []) g.placed p;
         same = g.same
             ∙ ap (λ x. g.t ++ write_form x (drop k values)) here
-            ∙ ap (λ u. g.t ++ u) (write_byte (drop (j + 1) form) f q (drop k values))
-            ∙ sym (append_assoc g.t (f ∷ []) (write_form (drop (j + 1) form) (drop k values)));
-        room = omega (arith, g.room, ap weight here ∙ weight_byte (drop (j + 1) form) f q, p.next_is, m);
-        left = omega (arith, g.left, ap marks here ∙ marks_byte (drop (j + 1) form) f q);
-        within = omega arith;
-        long = m ∙ g.long;
+            ∙ ap (λ u. g.t ++ u) (write_byte (drop (j + 1) form) (get_or form j 0) q (drop k values))
+            ∙ sym (append_assoc g.t (get_or form j 0 ∷ []) (write_form (drop (j + 1) form) (drop k values)));
+        room = omega (arith, g.room, ap weight here ∙ weight_byte (drop (j + 1) form) (get_or form j 0) q, p.next_is, m);
+        left = omega (arith, g.left, ap marks here ∙ marks_byte (drop (j + 1) form) (get_or form j 0) q);
       }
-
-  pub byte_space : j < length form → (get_or form j 0 ≡ 35 → ⊥) → i < length out
-  byte_space l q = byte_room (get_or form j 0) refl l q

@@ -1,3 +1,3 @@
--- What the proofs of the writers need: of bytes, of numbers, and of forms.
-pub mod Copies
+-- What the proofs of the writers need: of numbers, and of forms.
+pub mod Texts
 pub mod Forms

@@ -1,124 +1,79 @@
--- The needs of `form_at`: one turn of its loop is one step of `read_form`. Assumes nothing.
-use mathlib.Core.Path.{◌≡◌, refl, sym, ap, ap₂, ◌∙◌}
-use mathlib.Core.Bool.{Bool, true, false, cond}
-use mathlib.Core.List.{List, [], ◌∷◌, ◌++◌}
-use Prim.Native.Nat.{ℕ, zero, suc, ◌+◌, ◌*◌, ◌^◌, ◌≤◌, ◌<◌}
-use native.Mathlib.Numerals.{add-one}
-use native.Mathlib.Omega.{arith}
-use mir.Syntax.{w32, w64}
-use mir.Val.{Fits, SFits, to_z, of_z}
-use mir.ValLaws.{to_z-of_z}
-use lib.Dec.{eqb}
-use lib.IntN.{ℤ, pos}
-use lib.ListN.{length, get_or, take, drop, set, replicate, length-set, drop_of_length-le}
-use lib.Seq.{drop-cons, take-suc-set, get_or-set_other}
-use borrow.Author.Tests.{eq-eqb, ne_eqb}
+-- The needs of `form_at`: a turn of its loop is a step of `read_form`. Assumes nothing.
+use Rattle.std.proofs.Common.{◌≡◌, refl, ◌∙◌, Bool, true, false, cond, List, [], ◌∷◌, ◌++◌, ℕ, zero, suc, ◌+◌, ◌<◌, ◌≤◌, length, get_or, drop, take, set, arith, FitsSigned, w32, to_z, of_z}
+use Rattle.std.proofs.lemmas.Int.{to_z-of_z}
+use Rattle.std.proofs.lemmas.List.{take_more_set}
+use Rattle.std.specs.Prelude.{Option, Some, None, eqb, ℤ, pos, replicate}
+use Rattle.std.specs.List.{slice_get}
+use Rattle.std.proofs.Math.ListN.{drop_of_length-le}
+use Rattle.std.proofs.Math.Seq.{get_or-set_other}
 use Rattle.model.specs.Bytes.{Got, got, none}
 use Rattle.model.specs.Numbers.{number}
 use Rattle.model.specs.Forms.{byte, read_form}
 use Rattle.model.specs.Sheets.{fit}
-use Rattle.sheet_text.specs.Tests.{no}
-use Rattle.sheet_text.specs.Forms.{number_then, byte_then, marks, byte_same, byte_other}
+use Rattle.sheet_text.specs.Forms.{number_then, byte_then, marks}
 use Rattle.sheet_text.specs.Places.{fit_kept}
-use Rattle.scanning.specs.Scanned.{byte_of}
-use Rattle.scanning.proofs.Numbers.{drop_next, byte_some}
 
--- ---- a step of the definition
-cons_at : (form : List ℕ) (j f : ℕ) → f ≡ get_or form j 0 → j < length form → drop j form ≡ f ∷ drop (j + 1) form
-cons_at form j f e l = drop-cons form j 0 l ∙ ap₂ ◌∷◌ (sym e) (ap (λ k. drop k form) (sym (add-one j)))
+-- ---- a step of the definition, by the form's byte f
+abbrev pub stepped : ℕ → List ℕ → List ℤ → List ℕ → Got (List ℤ)
+stepped f fs vs s = cond (eqb f 35) (number_then fs vs (number s)) (byte_then fs vs (byte f s))
 
-step_mark : (fs : List ℕ) (vs : List ℤ) (s : List ℕ) → read_form (35 ∷ fs) vs s ≡ number_then fs vs (number s)
+step : (f : ℕ) (fs : List ℕ) (vs : List ℤ) (s : List ℕ) → read_form (f ∷ fs) vs s ≡ stepped f fs vs s
 unfolding read_form
-step_mark fs vs s = refl
+step f fs vs s = go (eqb f 35)
+  where
+    go : (t : Bool) → elim t [ true ↦ number_then fs vs (number s) | false ↦ byte_then fs vs (byte f s) ] ≡ cond t (number_then fs vs (number s)) (byte_then fs vs (byte f s))
+    go true = refl
+    go false = refl
 
-step_byte : (f : ℕ) (fs : List ℕ) (vs : List ℤ) (s : List ℕ) → (f ≡ 35 → ⊥) → read_form (f ∷ fs) vs s ≡ byte_then fs vs (byte f s)
+pub read_at : (form : List ℕ) (j : ℕ) (vs : List ℤ) (s : List ℕ) → j < length form → read_form (drop j form) vs s ≡ stepped (get_or form j 0) (drop (j + 1) form) vs s
+read_at (f ∷ fs) zero vs s h = step f fs vs s
+read_at (f ∷ fs) (suc j) vs s h = let e : suc j + 1 ≡ suc (j + 1) = omega arith in rw e (read_at fs j vs s (omega arith))
+read_at [] j vs s h = absurd (omega arith)
+
+pub read_end : (form : List ℕ) (j : ℕ) (vs : List ℤ) (s : List ℕ) → length form ≤ j → read_form (drop j form) vs s ≡ got vs s
 unfolding read_form
-step_byte f fs vs s h = no (eqb f 35) _ _ (ne_eqb f 35 h)
+read_end form j vs s h = rw (drop_of_length-le form h)
 
-not_byte : (f : ℕ) (l : List ℕ) → (byte_of l ≡ f → ⊥) → byte f l ≡ none
-unfolding byte_of
-not_byte f [] h = unfold byte in refl
-not_byte f (b ∷ s) h = byte_other f b s (ne_eqb b f h)
-
-is_byte : (f : ℕ) (l : List ℕ) → f < 256 → byte_of l ≡ f → byte f l ≡ got f (drop 1 l)
-unfolding byte_of
-is_byte f [] h e = absurd (omega arith)
-is_byte f (b ∷ s) h e = byte_same f b s (eq-eqb b f e) ∙ ap (λ u. got u s) e
-
-marks_mark : (fs : List ℕ) → marks (35 ∷ fs) ≡ suc (marks fs)
+pub marks_at : (form : List ℕ) (j : ℕ) → j < length form → marks (drop j form) ≡ cond (eqb (get_or form j 0) 35) (marks (drop (j + 1) form) + 1) (marks (drop (j + 1) form))
 unfolding marks
-marks_mark fs = refl
+marks_at (f ∷ fs) zero h = go (eqb f 35)
+  where
+    go : (t : Bool) → cond t (suc (marks fs)) (marks fs) ≡ cond t (marks fs + 1) (marks fs)
+    go true = omega arith
+    go false = refl
+marks_at (f ∷ fs) (suc j) h = let e : suc j + 1 ≡ suc (j + 1) = omega arith in rw e (marks_at fs j (omega arith))
+marks_at [] j h = absurd (omega arith)
 
-marks_byte : (f : ℕ) (fs : List ℕ) → (f ≡ 35 → ⊥) → marks (f ∷ fs) ≡ marks fs
+pub marks_end : (form : List ℕ) (j : ℕ) → length form ≤ j → marks (drop j form) ≡ 0
 unfolding marks
-marks_byte f fs h = rw (ne_eqb f 35 h)
+marks_end form j h = rw (drop_of_length-le form h)
 
--- ---- a turn of the loop
-module _ (form : List ℕ) (j f : ℕ) (e : f ≡ get_or form j 0) (l : j < length form) where
-  at_mark : f ≡ 35 → drop j form ≡ 35 ∷ drop (j + 1) form
-  at_mark h = cons_at form j f e l ∙ ap (λ u. u ∷ drop (j + 1) form) h
+-- the byte f, by the byte that stands there
+abbrev pub same_byte : ℕ → Option ℕ → List ℕ → Got ℕ
+same_byte f None s = none
+same_byte f (Some b) s = cond (eqb b f) (got b s) none
 
-  marks_here : f ≡ 35 → marks (drop j form) ≡ suc (marks (drop (j + 1) form))
-  marks_here h = ap marks (at_mark h) ∙ marks_mark (drop (j + 1) form)
+pub byte_by : (f : ℕ) (s : List ℕ) (i : ℕ) → byte f (drop i s) ≡ same_byte f (slice_get s i) (drop (i + 1) s)
+unfolding byte
+byte_by f [] zero = refl
+byte_by f [] (suc i) = refl
+byte_by f (b ∷ s) zero = go (eqb b f)
+  where
+    go : (t : Bool) → elim t [ true ↦ got b s | false ↦ none ] ≡ cond t (got b s) none
+    go true = refl
+    go false = refl
+byte_by f (b ∷ s) (suc i) = let e : suc i + 1 ≡ suc (i + 1) = omega arith in rw e (byte_by f s i)
 
-  module _ (all count : ℕ) (few : all ≤ 8) (left : count + marks (drop j form) ≡ all) where
-    pub room : f ≡ 35 → count < 8
-    room h = omega (arith, marks_here h)
+-- the values with one more
+pub values_more : (values : List ℤ) (count : ℕ) (v : ℤ) → FitsSigned w32 v → count < length values → take (count + 1) (set values count (to_z w32 (of_z w32 v))) ≡ take count values ++ v ∷ []
+values_more values count v f h = rw (to_z-of_z w32 v f) (take_more_set values count v h)
 
-    pub room_offset : f ≡ 35 → Fits w64 (count * 4)
-    room_offset h = omega (arith, marks_here h)
+-- a turn at a # and at another byte
+pub mark_read : (form : List ℕ) (j : ℕ) (vs : List ℤ) (s : List ℕ) (v : ℤ) (t : List ℕ) → j < length form → get_or form j 0 ≡ 35 → got v t ≡ number s → read_form (drop j form) vs s ≡ read_form (drop (j + 1) form) (vs ++ v ∷ []) t
+mark_read form j vs s v t h m e = read_at form j vs s h ∙ rw (m, ← e) refl
 
-    pub room_next : f ≡ 35 → Fits w64 (count + 1)
-    room_next h = omega (arith, marks_here h)
-
-    pub left_mark : f ≡ 35 → count + 1 + marks (drop (j + 1) form) ≡ all
-    left_mark h = omega (arith, marks_here h)
-
-    pub left_byte : (f ≡ 35 → ⊥) → count + marks (drop (j + 1) form) ≡ all
-    left_byte h = omega (arith, ap marks (cons_at form j f e l) ∙ marks_byte f (drop (j + 1) form) h)
-
-  module _ (s : List ℕ) (i count : ℕ) (values : List ℤ) (w : Got (List ℤ)) (inv : w ≡ read_form (drop j form) (take count values) (drop i s)) where
-    mark_step : f ≡ 35 → w ≡ number_then (drop (j + 1) form) (take count values) (number (drop i s))
-    mark_step h = inv ∙ ap (λ u. read_form u (take count values) (drop i s)) (at_mark h) ∙ step_mark (drop (j + 1) form) (take count values) (drop i s)
-
-    byte_step : (f ≡ 35 → ⊥) → w ≡ byte_then (drop (j + 1) form) (take count values) (byte f (drop i s))
-    byte_step h = inv ∙ ap (λ u. read_form u (take count values) (drop i s)) (cons_at form j f e l) ∙ step_byte f (drop (j + 1) form) (take count values) (drop i s) h
-
-    module _ (t : Bool) (v : ℤ) (next : ℕ) (n : cond t (got v (drop next s)) none ≡ number (drop i s)) where
-      pub mark_none : f ≡ 35 → t ≡ false → none ≡ w
-      mark_none h q = sym (mark_step h ∙ ap (number_then (drop (j + 1) form) (take count values)) (sym n ∙ ap (λ u. cond u (got v (drop next s)) none) q))
-
-      pub mark_again : f ≡ 35 → t ≡ true → SFits w32 v → count < length values → w ≡ read_form (drop (j + 1) form) (take (count + 1) (set values count (to_z w32 (of_z w32 v)))) (drop next s)
-      mark_again h q p r =
-          mark_step h
-          ∙ ap (number_then (drop (j + 1) form) (take count values)) (sym n ∙ ap (λ u. cond u (got v (drop next s)) none) q)
-          ∙ ap (λ u. read_form (drop (j + 1) form) u (drop next s)) (sym (
-          ap (λ k. take k (set values count (to_z w32 (of_z w32 v)))) (add-one count)
-          ∙ take-suc-set values count (to_z w32 (of_z w32 v)) r
-          ∙ ap (λ u. take count values ++ (u ∷ [])) (to_z-of_z w32 v p)))
-
-    module _ (b : ℕ) (q : b ≡ byte_of (drop i s)) where
-      pub byte_none : (f ≡ 35 → ⊥) → (b ≡ f → ⊥) → none ≡ w
-      byte_none h d = sym (byte_step h ∙ ap (byte_then (drop (j + 1) form) (take count values)) (not_byte f (drop i s) (λ o. d (q ∙ o))))
-
-      pub byte_again : (f ≡ 35 → ⊥) → f < 256 → b ≡ f → w ≡ read_form (drop (j + 1) form) (take count values) (drop (i + 1) s)
-      byte_again h m d = byte_step h ∙ ap (byte_then (drop (j + 1) form) (take count values)) (is_byte f (drop i s) m (sym q ∙ d)) ∙ ap (read_form (drop (j + 1) form) (take count values)) (drop_next s i)
-
-pub byte_in : (s : List ℕ) (i b f : ℕ) → b ≡ byte_of (drop i s) → f < 256 → b ≡ f → i + 1 ≤ length s
-byte_in s i b f q m d = omega (arith, byte_some s i (omega arith))
-
-pub byte_fits : (s : List ℕ) (i b f : ℕ) → b ≡ byte_of (drop i s) → f < 256 → b ≡ f → length s < 2 ^ 64 → Fits w64 (i + 1)
-byte_fits s i b f q m d l = omega (arith, byte_in s i b f q m d)
-
-pub length_after : (values : List ℤ) (count : ℕ) (v : ℤ) (n : ℕ) → length values ≡ n → length (set values count v) ≡ n
-length_after values count v n h = length-set values count v ∙ h
-
-pub at_end : (form s : List ℕ) (i j count : ℕ) (values : List ℤ) (w : Got (List ℤ)) → w ≡ read_form (drop j form) (take count values) (drop i s) → count + marks (drop j form) ≡ marks form → length form ≤ j → got (take (marks form) values) (drop i s) ≡ w
-unfolding read_form
-at_end form s i j count values w inv left h =
-    let d : drop j form ≡ [] = drop_of_length-le form h in
-    let c : marks form ≡ count = omega (arith, ap marks d, (let z : marks [] ≡ 0 = unfold marks in refl in z)) in
-    ap (λ k. got (take k values) (drop i s)) c ∙ sym (inv ∙ ap (λ u. read_form u (take count values) (drop i s)) d)
+pub byte_read : (form : List ℕ) (j : ℕ) (vs : List ℤ) (s : List ℕ) (i : ℕ) → j < length form → (get_or form j 0 ≡ 35 → ⊥) → slice_get s i ≡ Some (get_or form j 0) → read_form (drop j form) vs (drop i s) ≡ read_form (drop (j + 1) form) vs (drop (i + 1) s)
+byte_read form j vs s i h m e = read_at form j vs (drop i s) h ∙ grind (arith, byte_by)
 
 -- ---- the values past the numbers are zeros
 abbrev pub Spare : ℕ → List ℤ → Type 0
@@ -132,8 +87,8 @@ all_spare (suc n) count (suc k) h = all_spare n 0 k (omega arith)
 pub still_spare : (values : List ℤ) (count : ℕ) (v : ℤ) → Spare count values → Spare (count + 1) (set values count v)
 still_spare values count v z k h = get_or-set_other values count k v (pos 0) (λ e. omega arith) ∙ z k (omega arith)
 
-pub spare_end : (form : List ℕ) (j count : ℕ) (values : List ℤ) → Spare count values → count + marks (drop j form) ≡ marks form → length values ≡ 8 → fit 8 (take (marks form) values) ≡ values
-spare_end form j count values z left n = fit_kept 8 (marks form) values n (λ k h. z k (omega arith))
+pub spare_end : (n : ℕ) (values : List ℤ) → Spare n values → length values ≡ 8 → fit 8 (take n values) ≡ values
+spare_end n values z l = fit_kept 8 n values l (λ k h. z k (omega arith))
 
-pub none_spare : (k : ℕ) → fit 8 (take k (replicate 8 (pos 0))) ≡ replicate 8 (pos 0)
-none_spare k = fit_kept 8 k (replicate 8 (pos 0)) refl (all_spare 8 k)
+-- what the reader of forms uses
+pub ruleset steps = (read_at, read_end, marks_at, marks_end, byte_by, spare_end)
