@@ -3,7 +3,6 @@
 
 ghost use Rattle.std.specs.Prelude.{◌≡◌, List, ◌+◌, ◌*◌, ◌^◌, ◌≤◌, ◌<◌, nat_abs, length};
 ghost use Rattle.model.specs.Trees.{Tree};
-ghost use Rattle.model.specs.Boxes.{lesser};
 ghost use Rattle.model.specs.Store.{width, flatten};
 ghost use Rattle.model.specs.Lookup.{visit, lookup};
 ghost use Rattle.ranges.specs.Sizes.{AllSized};
@@ -25,38 +24,27 @@ pub struct Found {
 }
 
 // stands for the bounds before the first leaf: 2^62 is above the least bounds of every tree of a legal job for a point in range (`least_below`)
-const NONE: i64 = 4611686018427387904;
+const NONE: i64 = 1 << 62;
 
 // ---- one leaf
 
-fn lesser_of(a: i64, b: i64) -> i64
-    ensures least { result ≡ lesser a b }
-{
-    if b < a { b } else { a }
-}
-
-// with the bounds of a leaf of the edge
-fn with_leaf(found: Found, leaf: Bounds, edge: usize) -> Found
-    ensures taken { Taken found leaf edge result }
-{
-    let lo = lesser_of(found.lo, leaf.lo);
-    let first = found.hi;
-    let later = leaf.hi;
-    let reads = found.reads;
-    if later < first {
-        return Found {
-            lo: lo,
-            hi: later,
-            edge: edge,
-            reads: reads,
-        };
-    }
-    let before = found.edge;
-    Found {
-        lo: lo,
-        hi: first,
-        edge: before,
-        reads: reads,
+impl Found {
+    // with the bounds of a leaf of the edge
+    fn with_leaf(self, leaf: Bounds, edge: usize) -> Found
+        ensures taken { Taken self leaf edge result }
+    {
+        let lo = self.lo.min(leaf.lo);
+        let falls = leaf.hi < self.hi;
+        if falls {
+            Found {
+                lo,
+                hi: leaf.hi,
+                edge,
+                ..self
+            }
+        } else {
+            Found { lo, ..self }
+        }
     }
 }
 
@@ -70,25 +58,26 @@ fn look_through(part: &[i32], edge: usize, x: i32, y: i32, before: Found) -> Fou
     ensures few { width * result.reads ≤ width * before.reads + length part.now }
 {
     let mut found = before;
-    let mut at: usize = 0;
-    while at < part.len() {
-        let bounds = boxes::bounds_at(&part[at..], x, y);
-        let n = nodes::count_at(part, at + COUNT);
+    let mut rest = part;
+    // no `for`: how far the next node lies is told by this one
+    while !rest.is_empty() {
+        let bounds = boxes::bounds_at(rest, x, y);
+        let n = nodes::count_at(rest, COUNT);
         found.reads += 1;
         if found.hi <= bounds.lo {
-            at += WIDTH * n;
+            rest = &rest[WIDTH * n..];
         } else {
-            at += WIDTH;
+            rest = &rest[WIDTH..];
             let leaf = n == 1;
             if leaf {
-                found = with_leaf(found, bounds, edge);
+                found = found.with_leaf(bounds, edge);
             }
         }
     }
     found
 }
 
-// ---- a job's trees
+// ---- a job's trees. The count is the job's, and x and y are the entries' own: structs of them would be made only to be taken apart.
 
 // Of the point (x, y), over a job's trees, with which the store begins: each is a part by itself, and ends where its count says.
 pub fn nearest(store: &[i32], count: usize, x: i32, y: i32) -> Found
@@ -101,14 +90,12 @@ pub fn nearest(store: &[i32], count: usize, x: i32, y: i32) -> Found
         edge: 0,
         reads: 0,
     };
-    let mut at: usize = 0;
-    let mut edge: usize = 0;
-    while edge < count {
-        let n = nodes::count_at(store, at + COUNT);
-        let end = at + WIDTH * n;
-        found = look_through(&store[at..end], edge, 16 * x, 16 * y, found);
-        at = end;
-        edge += 1;
+    let mut rest = store;
+    for edge in 0..count {
+        let n = nodes::count_at(rest, COUNT);
+        let (part, behind) = rest.split_at(WIDTH * n);
+        found = look_through(part, edge, 16 * x, 16 * y, found);
+        rest = behind;
     }
     found
 }

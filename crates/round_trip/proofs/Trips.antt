@@ -1,65 +1,46 @@
 -- The trip's steps, from the laws of the face alone. Assumes nothing.
-use mathlib.Core.Path.{◌≡◌, refl, sym, ap, ap₂, ◌∙◌, subst}
-use mathlib.Core.List.{List}
-use Prim.Native.Nat.{ℕ, zero, suc, ◌≤◌}
-use native.Mathlib.Omega.{arith}
-use lib.IntN.{ℤ}
-use lib.ListN.{length, take}
+use Rattle.std.specs.Prelude.{◌≡◌, List, ℕ, ℤ, ◌≤◌, T, ltb, length, take, Result, Ok, Err, OnOk}
+use Rattle.std.proofs.Common.{sym, ap, ap₂, subst, ◌∙◌, arith}
 use Rattle.model.specs.declared.Job.{Job}
-use Rattle.model.specs.declared.Read.{Read}
-use Rattle.model.specs.declared.Written.{Written}
-use Rattle.model.specs.declared.Map.{Map}
+use Rattle.model.specs.declared.Refusal.{Refusal}
+use Rattle.model.specs.Answers.{meant, number_of, told, Read, Written, Map, as_read, as_written, as_map}
 use Rattle.model.specs.Entries as entries
 use Rattle.model.specs.Promises.{Whole, MapHolds}
-use Rattle.clearance.specs.Sheets.{write_read, read_legal, write_fits, unwritten_unread}
-use Rattle.clearance.specs.Demands.{map_legal}
+use Rattle.clearance.specs.Sheets.{write_read, write_fits}
 
--- the bytes written are there to be read
-pub in_reach : (j : Job) (out after : List ℕ) (w : Written) → w ≡ entries.write j out → length after ≡ length out → w.bytes ≤ length after
-in_reach j out after w wrote long = omega (arith, write_fits j out, ap (λ (q : Written). q.bytes) wrote)
+module _ (j : Job) (out after : List ℕ) (left : after ≡ entries.write_leaves j out) where
+  -- writing was refused
+  pub not_written : (k : Refusal) → as_written (Err k) ≡ entries.write j out → number_of k ≡ (entries.write j out).refusal
+  not_written k e = ap (λ (w : Written). w.refusal) e
 
-module _ (j : Job) (out : List ℕ) (whole : Whole j) where
-  -- what reading the bytes written gives
-  abbrev back : Read
-  back = entries.read (take (entries.write j out).bytes (entries.write_leaves j out))
+  module _ (n : ℕ) (wrote : as_written (Ok n) ≡ entries.write j out) where
+    pub accepted : 0 ≡ (entries.write j out).refusal
+    accepted = ap (λ (w : Written). w.refusal) wrote
 
-  -- written, the job came back
-  came_back : (entries.write j out).refusal ≡ 0 → back.job ≡ j
-  came_back e = ap (λ (r : Read). r.job) (write_read j out whole e)
+    -- the bytes written are there to be read
+    pub in_reach : length after ≡ length out → n ≤ length after
+    in_reach long = omega (arith, write_fits j out, ap (λ (w : Written). w.bytes) wrote)
 
-  -- what came back and is mapped was written
-  mapped_back : (store : List ℤ) (cells : List ℕ) → (entries.map back.job store cells).refusal ≡ 0 → back.job ≡ j
-  mapped_back store cells m = go (entries.write j out).refusal refl
-    where
-      go : (n : ℕ) → (entries.write j out).refusal ≡ n → back.job ≡ j
-      go zero e = came_back e
-      go (suc n) e = absurd (omega (arith, unwritten_unread j out (λ z. omega (arith, z, e)), (read_legal (take (entries.write j out).bytes (entries.write_leaves j out))).0 (map_legal back.job store cells m)))
+    module _ (whole : Whole j) where
+      came : entries.read (take n after) ≡ record { refusal = 0; job = j }
+      came = ap₂ (λ (n : ℕ) (s : List ℕ). entries.read (take n s)) (ap (λ (w : Written). w.bytes) wrote) left ∙ write_read j out whole (sym accepted)
 
-  -- ---- what the calls answer, w, r and m, and leave
-  module _ (store : List ℤ) (cells after letters : List ℕ) (w : Written) (r : Read) (m : Map) (wrote : w ≡ entries.write j out) (left : after ≡ entries.write_leaves j out) (got : r ≡ entries.read (take w.bytes after)) (drew : m ≡ entries.map r.job store cells) (holds : m.refusal ≡ 0 → MapHolds r.job letters) where
-    number : w.refusal ≡ (entries.write j out).refusal
-    number = ap (λ (q : Written). q.refusal) wrote
+      -- they are no sheet that is refused
+      pub not_refused : (k : Refusal) → as_read (Err k) ≡ entries.read (take n after) → ⊥
+      not_refused k e = subst (λ (n : ℕ). T (ltb 0 n)) (ap (λ (r : Read). r.refusal) (e ∙ came)) (meant k).above
 
-    job_back : r.job ≡ back.job
-    job_back = ap (λ (q : Read). q.job) (got ∙ ap₂ (λ (n : ℕ) (s : List ℕ). entries.read (take n s)) (ap (λ (q : Written). q.bytes) wrote) left)
+      -- the job came back
+      pub job_is : (back : Job) → as_read (Ok back) ≡ entries.read (take n after) → back ≡ j
+      job_is back e = ap (λ (r : Read). r.job) (e ∙ came)
 
-    job_is : w.refusal ≡ 0 → r.job ≡ j
-    job_is z = job_back ∙ came_back (sym number ∙ z)
+-- ---- the map of the job that came back
+module _ (j back : Job) (same : back ≡ j) (store : List ℤ) (cells letters : List ℕ) (m : Result ℕ Refusal) where
+  numbered : (m : Result ℕ Refusal) → told m ≡ (as_map m).refusal
+  numbered (Ok n) = λ i. 0
+  numbered (Err k) = λ i. number_of k
 
-    drawn : m.refusal ≡ (entries.map r.job store cells).refusal
-    drawn = ap (λ (q : Map). q.refusal) drew
+  pub map_told : as_map m ≡ entries.map back store cells → told m ≡ (entries.map j store cells).refusal
+  map_told e = numbered m ∙ ap (λ (r : Map). r.refusal) (e ∙ ap (λ (i : Job). entries.map i store cells) same)
 
-    drawn_as : (i : Job) → r.job ≡ i → m.refusal ≡ (entries.map i store cells).refusal
-    drawn_as i e = drawn ∙ ap (λ (k : Job). (entries.map k store cells).refusal) e
-
-    pub trip : (w.refusal ≡ (entries.write j out).refusal) × ((w.refusal ≡ 0 → r.job ≡ j) × ((w.refusal ≡ 0 → m.refusal ≡ (entries.map j store cells).refusal) × (m.refusal ≡ 0 → MapHolds j letters)))
-    trip = (
-      number,
-      (
-        job_is,
-        (
-          λ z. drawn_as j (job_is z),
-          λ z. subst (λ (i : Job). MapHolds i letters) (job_back ∙ mapped_back store cells (sym (drawn_as back.job job_back) ∙ z)) (holds z),
-        ),
-      ),
-    )
+  pub map_true : OnOk m (MapHolds back letters) → OnOk m (MapHolds j letters)
+  map_true h = subst (λ (i : Job). OnOk m (MapHolds i letters)) same h

@@ -1,0 +1,2 @@
+-- What the promises say of an accepted call.
+pub mod Accepted
