@@ -2,7 +2,7 @@
 use mathlib.Core.Path.{◌≡◌, refl, sym, ap, ◌∙◌, subst}
 use mathlib.Core.List.{List, [], ◌∷◌, ◌++◌, append_assoc, append-nil}
 use Prim.Native.Nat.{ℕ, zero, suc, ◌+◌, ◌*◌, ◌-◌, ◌≤◌, ◌<◌}
-use native.Mathlib.Nat.{mul-le-mul, mul-le-mul_right}
+use native.Mathlib.Nat.{mul-le-mul_right}
 use native.Mathlib.Numerals.{add-one}
 use native.Mathlib.Omega.{arith}
 use lib.Dec.{lit<}
@@ -62,13 +62,6 @@ no_rows out cells at n = record { placed = put_none out at; here = omega arith; 
 in_cells : (n j : ℕ) → j < n → j * n + n ≤ n * n
 in_cells n j h = let l : suc j ≤ n = omega arith in omega (arith, mul-le-mul_right n l)
 
--- places in a map of 256 cells a side at the most
-pub few_cells : (n j : ℕ) → n ≤ 256 → j < n → j * n + n ≤ 65536
-few_cells n j h k = omega (arith, in_cells n j k, mul-le-mul h h)
-
-pub row_fits : (at n j i room : ℕ) → i ≡ at + j * (n + 7) → j < n → at + n * (n + 7) ≤ room → i + n + 7 ≤ room
-row_fits at n j i room e l h = let m : suc j ≤ n = omega arith in omega (arith, mul-le-mul_right (n + 7) m)
-
 module _ (cells : List ℕ) (n j : ℕ) (jn : j < n) (room : n * n ≤ length cells) where
   pub part_end : j * n + n ≤ length cells
   part_end = omega (arith, in_cells n j jn)
@@ -88,18 +81,11 @@ module _ (before after : List ℕ) (at i : ℕ) (cells : List ℕ) (n j : ℕ) (
         same_length = l ∙ r.same_length;
       }
 
--- ---- a form with one number
-pub form_put : (F a b : List ℕ) (at r n : ℕ) (v : ℤ) → Put a b at r (write_form F (v ∷ [])) → v ≡ pos n → Put a b at r (write_form F (pos n ∷ []))
-form_put F a b at r n v p e = subst (λ u. Put a b at r (write_form F (u ∷ []))) e p
-
 -- the part of a row
 pub row_part : (cells : List ℕ) (a n : ℕ) → take (a + n - a) (drop a cells) ≡ take n (drop a cells)
 row_part cells a n = let z : a + n - a ≡ n = omega arith in rw z
 
--- ---- a whole map: 14 bytes for its first line, 263 for each of 256 rows, 2 for its end
-pub rows_fit : (a n : ℕ) → n ≤ 256 → a ≤ 14 → a + n * (n + 7) + 2 ≤ 67344
-rows_fit a n h k = let w : n + 7 ≤ 263 = omega arith in omega (arith, mul-le-mul h w)
-
+-- ---- a whole map
 pub map_put : (a b c d : List ℕ) (i k next n : ℕ) (cells : List ℕ) → Put a b 0 i (write_form map_form (pos n ∷ [])) → Put b c i k (rows_text n n cells) → Put c d k next (bytes ")\n") → Put a d 0 next (map_text n cells)
 unfolding map_text
 map_put a b c d i k next n cells p q r =

@@ -1,19 +1,12 @@
 // What the program prints, written into lent bytes: the line of a refusal, a map's first line, its rows and its end. Each writer takes a position
-// and gives the position after what it wrote. RULES, "Sheets".
+// and gives the position after what it wrote: two parameters, as in `formatting`. RULES, "Sheets".
 ghost use Rattle.std.specs.Prelude.{◌≡◌, [], ◌∷◌, ◌+◌, ◌*◌, ◌≤◌, pos, length};
 ghost use Rattle.model.specs.Forms.{write_form};
 ghost use Rattle.model.specs.Printing.{refused_form, map_form, row_text, rows_text, map_text};
 ghost use Rattle.sheet_text.specs.Forms.{marks, weight};
 ghost use Rattle.formatting.specs.Puts.{Put};
 
-use formatting::put_bytes;
-
-fn number(n: usize) -> i32
-    requires small { n ≤ 256 }
-    ensures same { result ≡ pos n }
-{
-    n as i32
-}
+use formatting::{put_bytes, put_form};
 
 // A line that says one number.
 fn put_line(out: &mut [u8], at: usize, form: &[u8], n: usize) -> usize
@@ -21,10 +14,10 @@ fn put_line(out: &mut [u8], at: usize, form: &[u8], n: usize) -> usize
     ensures wrote { Put out.old out.new at result (write_form form.now (pos n ∷ [])) }
     ensures bound { result ≤ at + weight form.now }
 {
-    let values = [number(n)];
-    formatting::put_form(out, at, form, &values, 0)
+    put_form(out, at, form, &[n as i32])
 }
 
+#[tactic(auto, unfolding(model::specs::Forms::marks, sheet_text::specs::Forms::weight, model::specs::Printing::refused_form))]
 pub fn put_refusal(out: &mut [u8], at: usize, refusal: usize) -> usize
     requires small { refusal ≤ 256 }
     requires space { at + 19 ≤ length out.old }
@@ -35,6 +28,7 @@ pub fn put_refusal(out: &mut [u8], at: usize, refusal: usize) -> usize
 }
 
 // The first line of a map of n cells a side.
+#[tactic(auto, unfolding(model::specs::Forms::marks, sheet_text::specs::Forms::weight, model::specs::Printing::map_form))]
 fn put_head(out: &mut [u8], at: usize, n: usize) -> usize
     requires small { n ≤ 256 }
     requires space { at + 14 ≤ length out.old }
@@ -59,15 +53,12 @@ fn put_rows(out: &mut [u8], at: usize, cells: &[u8], n: usize) -> usize
     ensures wrote { Put out.old out.new at result (rows_text n n cells.now) }
     ensures bound { result ≡ at + n * (n + 7) }
 {
-    let mut i = at;
-    let mut j: usize = 0;
-    while j < n {
-        let a = j * n;
-        let e = a + n;
-        i = put_row(out, i, &cells[a..e]);
-        j += 1;
+    let mut next = at;
+    for j in 0..n {
+        let row = &cells[j * n..j * n + n];
+        next = put_row(out, next, row);
     }
-    i
+    next
 }
 
 // A whole map of n cells a side, from the front of `out`.

@@ -1,24 +1,18 @@
 // What the programs that run stored cases share: a case is an argument, the name of a file that holds a sheet.
 #![tactic(auto)]
 
-ghost use Rattle.std.specs.Prelude.{◌≡◌, [], ◌∷◌, min, ◌≤◌, T, pos, length};
+ghost use Rattle.std.specs.Prelude.{◌≡◌, [], ◌∷◌, T, pos, length, IfSome};
 ghost use Rattle.std.specs.Int.Signed.{non_neg};
 ghost use Rattle.std.specs.Counts.{IsPrefixLen};
 ghost use Rattle.model.specs.Forms.{write_form};
 ghost use Rattle.model.specs.Printing.{refused_form};
+ghost use Rattle.model.specs.Answers.{number_of, as_read};
 ghost use Rattle.model.specs.Entries.{read};
 
-use model::Read;
+use model::{Job, Refusal};
 use std::env::FillError;
 use std::rt::{Env, Files};
 use std::{fs, io, str};
-
-// The smaller of two numbers: what a count says, and no more than there is.
-pub fn least(a: usize, b: usize) -> usize
-    ensures smaller { result ≡ min a b }
-{
-    if a < b { a } else { b }
-}
 
 // The longest name that a file has, in bytes.
 const PATH_MAX: usize = 4096;
@@ -31,29 +25,22 @@ pub fn show(rt: &impl Print, text: &[u8]) {
 // Whether there is a case i: argument 0 is the program's name, and the cases follow it.
 pub fn has_case(rt: &impl Env, i: usize) -> bool {
     let mut name = [0u8; PATH_MAX];
-    match rt.arg(i, &mut name) {
-        Ok(_) => true,
-        Err(FillError::TooLong) => true,
-        Err(FillError::NotPresent) => false,
-    }
+    !matches!(rt.arg(i, &mut name), Err(FillError::NotPresent))
 }
 
 // Puts the name of case i to the front of `name`, and says how many bytes it has: 0 where there is none, or where it is too long.
 fn put_name(rt: &impl Env, i: usize, name: &mut [u8]) -> usize
     ensures count { IsPrefixLen result name.new }
 {
-    match rt.arg(i, name) {
-        Ok(k) => k,
-        Err(_) => 0,
-    }
+    rt.arg(i, name).unwrap_or(0)
 }
 
 // Opens the file of a name. A name that is no text has none.
 fn open_named<R: Files>(rt: &R, name: &[u8]) -> io::Result<R::File> {
-    match str::from_utf8(name) {
-        Ok(text) => fs::open(rt, text),
-        Err(_) => Err(io::Error::from(io::ErrorKind::InvalidFilename)),
-    }
+    let Ok(text) = str::from_utf8(name) else {
+        return Err(io::Error::from(io::ErrorKind::InvalidFilename));
+    };
+    fs::open(rt, text)
 }
 
 // Prints the name of case i, a line, and opens its file. A file that cannot be opened is told where the answers stand, and gives the error.
@@ -69,47 +56,21 @@ pub fn open_case<R: Env + Files + Print>(rt: &R, i: usize) -> io::Result<R::File
     file
 }
 
-// How many bytes a case's sheet has, and whether reading it failed.
-#[derive(Clone, Copy)]
-pub struct Stored {
-    pub count: usize,
-    pub failed: bool,
-}
-
-// Reads a file to the front of `sheet`, as the program reads its input.
-fn read_stored<R: io::Read>(file: &mut R, sheet: &mut [u8]) -> Stored
-    ensures count { IsPrefixLen result.count sheet.new }
+// Prints the name of case i and reads its sheet to the front of `sheet`, as the program reads its input: how many bytes it has, where it can be read.
+pub fn read_case<R: Env + Files + Print>(rt: &R, i: usize, sheet: &mut [u8]) -> Option<usize>
+    ensures count { IfSome result (λ k. IsPrefixLen k sheet.new) }
 {
-    let input = streams::read_input(file, sheet);
-    Stored {
-        count: streams::bytes_of(input),
-        failed: streams::has_failed(input),
+    let mut file = open_case(rt, i).ok()?;
+    let input = streams::read_input(&mut file, sheet);
+    if streams::has_failed(input) {
+        return None;
     }
-}
-
-// Nothing of a file that could not be opened.
-fn unread() -> Stored
-    ensures nothing { result.count ≡ 0 }
-{
-    Stored {
-        count: 0,
-        failed: true,
-    }
-}
-
-// Prints the name of case i and reads its sheet to the front of `sheet`.
-pub fn read_case<R: Env + Files + Print>(rt: &R, i: usize, sheet: &mut [u8]) -> Stored
-    ensures count { IsPrefixLen result.count sheet.new }
-{
-    match open_case(rt, i) {
-        Ok(mut file) => read_stored(&mut file, sheet),
-        Err(_) => unread(),
-    }
+    Some(streams::bytes_of(input))
 }
 
 // Hands on the line of a refusal, and nothing else, and says how many bytes it has.
-fn hand_refusal(rt: &impl Print, text: &[u8], refusal: u8) -> usize
-    requires line { text.now ≡ write_form refused_form (pos refusal ∷ []) }
+fn hand_refusal(rt: &impl Print, text: &[u8], refusal: Refusal) -> usize
+    requires line { text.now ≡ write_form refused_form (pos (number_of refusal) ∷ []) }
     ensures bytes { result ≡ length text.now }
 {
     show(rt, text);
@@ -117,21 +78,41 @@ fn hand_refusal(rt: &impl Print, text: &[u8], refusal: u8) -> usize
 }
 
 // Shows a refusal's line, and says how many bytes it has.
-pub fn show_refusal(rt: &impl Print, refusal: u8) -> usize
-    ensures bytes { result ≡ length (write_form refused_form (pos refusal ∷ [])) }
+pub fn show_refusal(rt: &impl Print, refusal: Refusal) -> usize
+    ensures bytes { result ≡ length (write_form refused_form (pos (number_of refusal) ∷ [])) }
 {
     let mut out = [0u8; 19];
-    let end = answering::put_refused(refusal, &mut out);
+    let end = answering::put_refused(u8::from(refusal), &mut out);
     hand_refusal(rt, &out[..end], refusal)
 }
 
 // Shows the refusal that reading a sheet gives, and nothing else, and says how many bytes its line has.
-pub fn show_refused(rt: &impl Print, got: Read, sheet: &[u8]) -> usize
-    requires answer { got ≡ read sheet.now }
-    ensures bytes { result ≡ length (write_form refused_form (pos got.refusal ∷ [])) }
+pub fn show_refused(rt: &impl Print, refusal: Refusal, sheet: &[u8]) -> usize
+    requires answer { as_read (Err refusal) ≡ read sheet.now }
+    ensures bytes { result ≡ length (write_form refused_form (pos (read sheet.now).refusal ∷ [])) }
 {
-    let refusal = got.refusal;
     show_refusal(rt, refusal)
+}
+
+// Hands each case's job on in turn, and shows the refusal of a sheet that has none.
+pub fn each_job<R: Env + Files + Print, F: FnMut(Job)>(rt: &R, mut visit: F)
+    requires { F.IsAlwaysCallable visit }
+{
+    for i in 1..usize::MAX {
+        if !has_case(rt, i) {
+            break;
+        }
+        let mut sheet = [0; 8193];
+        if let Some(k) = read_case(rt, i, &mut sheet) {
+            let sheet = &sheet[..k];
+            match clearance::read(sheet) {
+                Ok(job) => visit(job),
+                Err(refusal) => {
+                    show_refused(rt, refusal, sheet);
+                }
+            }
+        }
+    }
 }
 
 // ---- what the programs that ask for points share
@@ -140,25 +121,11 @@ pub fn show_refused(rt: &impl Print, got: Read, sheet: &[u8]) -> usize
 pub fn printable(bound: i64) -> u64
     ensures same { T (non_neg bound) → pos result ≡ bound }
 {
-    if bound < 0 { u64::MAX } else { bound as u64 }
+    u64::try_from(bound).unwrap_or(u64::MAX)
 }
 
 // Shows some text and a number right behind it.
 pub fn show_number(rt: &impl Print, before: &[u8], n: u64) {
     show(rt, before);
     let _ = rt.print(n);
-}
-
-// One less, and no less than 0.
-pub fn one_less(n: usize) -> usize
-    ensures least { result ≤ n }
-{
-    if n == 0 { 0 } else { n - 1 }
-}
-
-// Another number: the next, or 0 after the greatest.
-pub fn one_up(number: i32) -> i32
-    ensures other { result ≡ number → ⊥ }
-{
-    if number < i32::MAX { number + 1 } else { 0 }
 }

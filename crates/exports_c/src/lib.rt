@@ -1,5 +1,5 @@
 // The functions of `exports` for callers in C and Rust, under the names and with the arguments of include/clearance.h. Each calls its own and
-// promises the same. A slice crosses as a pointer and its length, an array as a pointer.
+// promises the same. A slice crosses as a pointer and its length, an array as a pointer, a refusal as its number.
 #![tactic(auto)]
 
 ghost use Rattle.std.specs.Prelude.{◌≡◌};

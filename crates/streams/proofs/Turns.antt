@@ -1,6 +1,6 @@
 -- The needs of reading an input piece after piece, over plain variables. Assumes nothing.
 use mathlib.Core.Path.{◌≡◌, refl, sym, ap, ◌∙◌, subst}
-use mathlib.Core.Bool.{Bool, true, false, cond, not}
+use mathlib.Core.Bool.{Bool, true, false, cond}
 use mathlib.Core.List.{List, [], ◌∷◌, ◌++◌}
 use Prim.Native.Nat.{ℕ, suc, ◌+◌, ◌-◌, ◌≤◌, ◌<◌}
 use native.Mathlib.Omega.{arith}
@@ -8,14 +8,16 @@ use lib.Dec.{ltb, eqb}
 use lib.IntN.{ℤ, pos, negsuc}
 use lib.ListN.{length, take, length-append}
 use lib.Seq.{length-take-le}
-use lib.Signed.{lt_z}
-use borrow.Author.Tests.{ltb-true, eqb-false}
-use borrow.Rule.Slice.PartMut.{put_mid, mid_of, mid_len, same_len_mid}
+use borrow.Author.Tests.{ltb-true, le-ltb, ne_eqb, eqb-false}
+use borrow.Rule.Slice.PartMut.{put_mid, mid_of}
 use Rattle.sequences.specs.Parts.{tail_put}
-use Rattle.integers.specs.Tests.{both, negated}
+use Rattle.integers.specs.Tests.{both}
 use Rattle.std.specs.Counts.{IsPrefixLen, clamp_len}
+use Rattle.std.specs.Int.Signed.{lt_z}
+use Rattle.sheet_text.specs.Tests.{no_way}
 use Rattle.streams.specs.declared.inputs.Input.{Input}
-use Rattle.streams.specs.Reading.{Reply, given, piece, unread, after, goes_on, in_turn, pieces, Unbroken, ReadOn, Came}
+use Rattle.streams.specs.declared.inputs.State.TheVariants.{Open, Ended, Failed}
+use Rattle.streams.specs.Reading.{Reply, given, piece, unread, is_open, state_of, after, goes_on, in_turn, pieces, Unbroken, ReadOn, Came}
 
 pub counts : (k : ℕ) (held : List ℕ) → k ≤ length held → IsPrefixLen k held
 counts k held h = (h, sym (length-take-le k held h))
@@ -27,7 +29,7 @@ few (negsuc k) n = omega arith
 
 -- the reads that can still be made: as many as there are bytes of room, and one that gives none
 pub left : ℕ → Input → ℕ
-left n i = (n - i.count) + cond i.ended 0 1
+left n i = (n - i.count) + cond (is_open i.state) 1 0
 
 -- ---- what holds of the memory and of what is known, turn after turn
 pub record So (held : List ℕ) (i : Input) : Type 0 where
@@ -71,35 +73,57 @@ module _ (before now : List ℕ) (i r : Input) (s : So before i) (o : ReadOn bef
   }
 
 -- ---- one read
--- an answer where the part behind the bytes that are held was lent, told when the part is lent again
-module _ (held part : List ℕ) (i r : Input) (got : ℤ) (same : length part ≡ length (mid_of i.count (length held - i.count) held)) (h : i.count ≤ length held) where
+-- the part behind the bytes that are held was lent
+module _ (held part : List ℕ) (i : Input) (same : length part ≡ length (mid_of i.count (length held - i.count) held)) (h : i.count ≤ length held) where
   abbrev after_it : List ℕ
   after_it = put_mid i.count (length held - i.count) held part
 
-  abbrev again : List ℕ
-  again = mid_of i.count (length after_it - i.count) after_it
+  -- a read that gave n bytes, one that gave none, and one that failed
+  pub gave : (n : ℕ) → n ≤ length part → (n ≡ 0 → ⊥) → ReadOn held after_it i (record { count = i.count + n; state = Open })
+  gave n l z =
+      let c : n ≡ clamp_len (pos n) (length part) = omega arith in
+      record {
+        reply = record { got = pos n; lent = part };
+        put = tail_put i.count held part h;
+        told = (λ k. record { count = i.count + c k; state = Open }) ∙ ap (λ s. record { count = i.count + clamp_len (pos n) (length part); state = s }) (sym (rw (le-ltb n 0 (omega arith), ne_eqb (clamp_len (pos n) (length part)) 0 (λ e. omega arith)) refl));
+      }
 
-  as_long : length again ≡ length part
-  as_long = let l = same_len_mid i.count (length held - i.count) held part same in mid_len i.count (length after_it) after_it (omega arith) ∙ omega (arith, l, same, mid_len i.count (length held) held (omega arith))
+  pub gave_none : ReadOn held after_it i (record { count = i.count; state = Ended })
+  gave_none =
+      let c : 0 ≡ clamp_len (pos 0) (length part) = omega arith in
+      record {
+        reply = record { got = pos 0; lent = part };
+        put = tail_put i.count held part h;
+        told = λ k. record { count = (let z : i.count ≡ i.count + clamp_len (pos 0) (length part) = omega arith in z) k; state = cond (eqb (c k) 0) Ended Open };
+      }
 
-  pub read_on : r.count ≡ i.count + clamp_len got (length again) → r.ended ≡ eqb (clamp_len got (length again)) 0 → r.failed ≡ lt_z got (pos 0) → ReadOn held after_it i r
-  read_on c e f = record {
-    reply = record { got = got; lent = part };
+  pub failed_read : ReadOn held after_it i (record { count = i.count; state = Failed })
+  failed_read = record {
+    reply = record { got = negsuc 0; lent = part };
     put = tail_put i.count held part h;
-    told = λ k. record { count = (c ∙ ap (λ n. i.count + clamp_len got n) as_long) k; ended = (e ∙ ap (λ n. eqb (clamp_len got n) 0) as_long) k; failed = f k };
+    told = λ k. record { count = (let z : i.count ≡ i.count + 0 = omega arith in z) k; state = Failed };
   }
 
 -- ---- the loop
-pub open_count : (n : ℕ) (i : Input) → goes_on n i ≡ true → (i.ended ≡ false) × (i.count < n)
-open_count n i e = let h = both (not i.ended) (ltb i.count n) e in (negated i.ended h.0, ltb-true i.count n h.1)
+pub open_count : (n : ℕ) (i : Input) → goes_on n i ≡ true → (is_open i.state ≡ true) × (i.count < n)
+open_count n i e = let h = both (is_open i.state) (ltb i.count n) e in (h.0, ltb-true i.count n h.1)
+
+-- a reply that leaves the input open gave something
+open_some : (a : Reply) → is_open (state_of a) ≡ true → 0 < given a
+open_some a e = go (lt_z a.got (pos 0)) (eqb (given a) 0) refl e
+  where
+    go : (t z : Bool) → eqb (given a) 0 ≡ z → is_open (cond t Failed (cond z Ended Open)) ≡ true → 0 < given a
+    go true z q e = no_way e
+    go false true q e = no_way e
+    go false false q e = let n = eqb-false (given a) 0 q in omega arith
 
 pub fewer : (before now : List ℕ) (i r : Input) (s : So before i) (o : ReadOn before now i r) → length now ≡ length before → goes_on (length before) i ≡ true → left (length now) r < left (length before) i
 unfolding left
-fewer before now i r s o l e = let h = open_count (length before) i e in go r.ended refl h
+fewer before now i r s o l e = let h = open_count (length before) i e in go (is_open r.state) refl h
   where
-    go : (b : Bool) → r.ended ≡ b → (i.ended ≡ false) × (i.count < length before) → (length now - r.count) + cond b 0 1 < (length before - i.count) + cond i.ended 0 1
-    go true q h = rw h.0 (omega (arith, l, h.1, counted before now i r s o l e))
-    go false q h = let z = eqb-false (given o.reply) 0 (sym (ap (λ x. x.ended) o.told) ∙ q) in rw h.0 (omega (arith, l, h.1, counted before now i r s o l e, (turn before now i r s o l e).within, z))
+    go : (b : Bool) → is_open r.state ≡ b → (is_open i.state ≡ true) × (i.count < length before) → (length now - r.count) + cond b 1 0 < (length before - i.count) + cond (is_open i.state) 1 0
+    go false q h = rw h.0 (omega (arith, l, h.1, counted before now i r s o l e))
+    go true q h = let z = open_some o.reply (sym (ap (λ x. is_open x.state) o.told) ∙ q) in rw h.0 (omega (arith, l, h.1, counted before now i r s o l e, (turn before now i r s o l e).within, z))
 
 pub came : (held : List ℕ) (i : Input) → So held i → goes_on (length held) i ≡ false → IsPrefixLen i.count held × Came held i
 came held i s e = (counts i.count held s.within, record { replies = s.replies; in_turn_is = s.in_turn_is; bytes = s.bytes; unbroken = s.unbroken; closed = e })

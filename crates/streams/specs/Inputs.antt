@@ -1,15 +1,15 @@
 -- The input and what is read of it. A sheet has at most 8,192 bytes, so the first 8,193 of an input decide what is printed. Assumes nothing.
-use Rattle.std.specs.Prelude.{◌≡◌, true, false, not, List, [], ◌∷◌, ◌⊎◌, ℕ, ◌≤◌, T, eqb, ℤ, pos, negsuc, length, take}
-use Rattle.std.proofs.Common.{sym, ap, subst, ◌∙◌, arith, length-take-le, take_all, le-ltb}
+use Rattle.std.specs.Prelude.{◌≡◌, Bool, refl, true, false, cond, List, [], ◌∷◌, ◌⊎◌, ℕ, ◌≤◌, T, eqb, pos, length, take}
+use Rattle.std.proofs.Common.{sym, ap, subst, ◌∙◌, arith, length-take-le, take_all}
 use Rattle.std.specs.Int.Signed.{lt_z}
 use Rattle.model.specs.Bytes.{bytes}
 use Rattle.model.specs.Entries.{read_answer, read}
 use Rattle.model.specs.Printing.{map_answered, printed}
-use Rattle.integers.specs.Tests.{both, negated}
+use Rattle.integers.specs.Tests.{both}
 use Rattle.sheet_text.specs.Sheets.{front_read}
-use Rattle.std.specs.Counts.{clamp_len}
 use Rattle.streams.specs.declared.inputs.Input.{Input}
-use Rattle.streams.specs.Reading.{Reply, given, goes_on, in_turn, Unbroken, Came}
+use Rattle.streams.specs.declared.inputs.State.TheVariants.{Open, Ended, Failed}
+use Rattle.streams.specs.Reading.{Reply, given, state_of, is_open, failed, has_failed, goes_on, in_turn, Unbroken, Came}
 
 -- The first k bytes of `held` were read from an input: all that it had, or as many as there was room for. Then `text` is the answer to that
 -- input, whatever stands in it past what was read.
@@ -42,19 +42,29 @@ abbrev pub Good : List Reply → Type 0
 Good [] = Unit {0}
 Good (a ∷ before) = (lt_z a.got (pos 0) ≡ false) × Good before
 
-gave_some : (z : ℤ) (n : ℕ) → eqb (clamp_len z n) 0 ≡ false → lt_z z (pos 0) ≡ false
-gave_some (pos k) n e = le-ltb k 0 (omega arith)
-gave_some (negsuc k) n e = absurd (subst T e tt)
+open_good : (a : Reply) → is_open (state_of a) ≡ true → lt_z a.got (pos 0) ≡ false
+open_good a e = go (lt_z a.got (pos 0)) e
+  where
+    go : (t : Bool) → is_open (cond t Failed (cond (eqb (given a) 0) Ended Open)) ≡ true → t ≡ false
+    go true e = absurd (subst T (sym e) tt)
+    go false e = refl
+
+kept_good : (a : Reply) → failed (state_of a) ≡ false → lt_z a.got (pos 0) ≡ false
+kept_good a e = go (lt_z a.got (pos 0)) e
+  where
+    go : (t : Bool) → failed (cond t Failed (cond (eqb (given a) 0) Ended Open)) ≡ false → t ≡ false
+    go true e = e
+    go false e = refl
 
 good_before : (n : ℕ) (rs : List Reply) → goes_on n (in_turn rs) ≡ true → Unbroken n rs → Good rs
 unfolding in_turn Unbroken
 good_before n [] h u = tt
-good_before n (a ∷ before) h u = let e = (both (not (eqb (given a) 0)) _ h).0 in (gave_some a.got (length a.lent) (negated (eqb (given a) 0) e), good_before n before u.0 u.1)
+good_before n (a ∷ before) h u = (open_good a (both (is_open (state_of a)) _ h).0, good_before n before u.0 u.1)
 
-pub none_failed : (held : List ℕ) (r : Input) (c : Came held r) → r.failed ≡ false → Good c.replies
+pub none_failed : (held : List ℕ) (r : Input) (c : Came held r) → has_failed r ≡ false → Good c.replies
 unfolding in_turn Unbroken
 none_failed held r c e = go c.replies c.in_turn_is c.unbroken
   where
     go : (rs : List Reply) → r ≡ in_turn rs → Unbroken (length held) rs → Good rs
     go [] q u = tt
-    go (a ∷ before) q u = (sym (ap (λ x. x.failed) q) ∙ e, good_before (length held) before u.0 u.1)
+    go (a ∷ before) q u = (kept_good a (sym (ap has_failed q) ∙ e), good_before (length held) before u.0 u.1)

@@ -1,10 +1,12 @@
 -- What replies of the system's read say of an input. No contract can name the replies that the system gave, so that the promises here are of some
 -- replies: what is known of the input and the bytes held are as those have it. Assumes nothing.
-use Rattle.std.specs.Prelude.{◌≡◌, Bool, true, false, not, ◌&&◌, List, [], ◌∷◌, ◌++◌, ℕ, ◌+◌, ◌≤◌, ltb, eqb, ℤ, pos, length, take}
+use Rattle.std.specs.Prelude.{◌≡◌, Bool, true, false, cond, ◌&&◌, List, [], ◌∷◌, ◌++◌, ℕ, ◌+◌, ◌≤◌, ltb, eqb, ℤ, pos, length, take}
 use Rattle.std.specs.Int.Signed.{lt_z}
 pub use Rattle.std.specs.Counts.{IsPrefixLen as Counts}
 use Rattle.std.specs.Counts.{clamp_len}
 use Rattle.streams.specs.declared.inputs.Input.{Input}
+use Rattle.streams.specs.declared.inputs.State.{State}
+use Rattle.streams.specs.declared.inputs.State.TheVariants.{Open, Ended, Failed}
 
 -- a read's reply: its answer, and what the memory lent to it then holds
 pub record Reply : Type 0 where
@@ -20,15 +22,31 @@ piece a = take (given a) a.lent
 
 -- ---- what is known of an input
 abbrev pub unread : Input
-unread = record { count = 0; ended = false; failed = false }
+unread = record { count = 0; state = Open }
 
--- after a reply, behind `at` bytes that are held
+abbrev pub is_open : State → Bool
+is_open Open = true
+is_open Ended = false
+is_open Failed = false
+
+abbrev pub failed : State → Bool
+failed Open = false
+failed Ended = false
+failed Failed = true
+
+abbrev pub has_failed : Input → Bool
+has_failed i = failed i.state
+
+-- after a reply, behind `at` bytes that are held: one below 0 failed, and one that gave none is the end
+abbrev pub state_of : Reply → State
+state_of a = cond (lt_z a.got (pos 0)) Failed (cond (eqb (given a) 0) Ended Open)
+
 abbrev pub after : ℕ → Reply → Input
-after at a = record { count = at + given a; ended = eqb (given a) 0; failed = lt_z a.got (pos 0) }
+after at a = record { count = at + given a; state = state_of a }
 
 -- there is more to read, with room for n bytes in all
 abbrev pub goes_on : ℕ → Input → Bool
-goes_on n i = not i.ended && ltb i.count n
+goes_on n i = is_open i.state && ltb i.count n
 
 -- ---- replies in turn, the last one first: what they say, and the bytes that they gave
 unfoldable pub in_turn : List Reply → Input

@@ -1,16 +1,19 @@
 // What the program writes. Two functions call the handles that print, and each asks for what it is to be given: the answer and standard output, a
 // line of two and standard error.
-ghost use Rattle.std.specs.Prelude.{◌≡◌, true, false, pos, length};
-ghost use Rattle.streams.specs.Reading.{Came};
+ghost use Rattle.std.specs.Prelude.{◌≡◌, true, false, length};
+ghost use Rattle.streams.specs.Reading.{has_failed, Came};
 ghost use Rattle.streams.specs.Inputs.{Answers, Message};
+ghost use Rattle.streams.specs.declared.outputs.Stream.TheVariants.{Output, Errors};
 
 use crate::inputs::Input;
 use std::str;
 
-// The descriptors of standard output and standard error.
-const STDOUT_FILENO: i32 = 1;
-
-const STDERR_FILENO: i32 = 2;
+// Standard output and standard error, by their descriptors.
+#[derive(Clone, Copy)]
+enum Stream {
+    Output = 1,
+    Errors = 2,
+}
 
 // That an answer was handed on, and how many bytes it has; or that none was, and standard error tells why. The field is private, so that only
 // this file makes one.
@@ -20,22 +23,28 @@ pub struct Receipt {
 }
 
 // Writes the answer to an input that was read with no failure, and says whether all was taken.
-fn write_answer(rt: &(impl Print + Eprint), fd: i32, text: &[u8], held: &[u8], input: Input) -> bool
-    requires standard_output { fd ≡ pos 1 }
+fn write_answer(
+    rt: &(impl Print + Eprint),
+    stream: Stream,
+    text: &[u8],
+    held: &[u8],
+    input: Input,
+) -> bool
+    requires standard_output { stream ≡ Output }
     requires came { Came held.now input }
-    requires read { input.failed ≡ false }
+    requires read { has_failed input ≡ false }
     requires answer { Answers held.now input.count text.now }
 {
-    prove!(fd == STDOUT_FILENO);
+    prove!(matches!(stream, Stream::Output));
     rt.write_all(text).is_ok()
 }
 
 // Tells what failed. Standard error takes text, which both lines are.
-fn tell(rt: &(impl Print + Eprint), fd: i32, line: &[u8])
-    requires standard_error { fd ≡ pos 2 }
+fn tell(rt: &(impl Print + Eprint), stream: Stream, line: &[u8])
+    requires standard_error { stream ≡ Errors }
     requires message { Message line.now }
 {
-    prove!(fd == STDERR_FILENO);
+    prove!(matches!(stream, Stream::Errors));
     if let Ok(text) = str::from_utf8(line) {
         let _told = rt.eprint(text);
     }
@@ -44,31 +53,30 @@ fn tell(rt: &(impl Print + Eprint), fd: i32, line: &[u8])
 // Hands on the answer to an input that was read with no failure, and tells where it could not be written.
 pub fn hand_on(rt: &(impl Print + Eprint), text: &[u8], held: &[u8], input: Input) -> Receipt
     requires came { Came held.now input }
-    requires read { input.failed ≡ false }
+    requires read { has_failed input ≡ false }
     requires answer { Answers held.now input.count text.now }
     ensures bytes { result.bytes ≡ length text.now }
 {
-    let written = write_answer(rt, STDOUT_FILENO, text, held, input);
+    let written = write_answer(rt, Stream::Output, text, held, input);
     if !written {
         tell(
             rt,
-            STDERR_FILENO,
+            Stream::Errors,
             b"clearmap: the answer could not be written\n",
         );
     }
-    let bytes = text.len();
-    Receipt { bytes }
+    Receipt { bytes: text.len() }
 }
 
 // Tells that an input was not read to its end, and only of such a one.
 pub fn tell_unread(rt: &(impl Print + Eprint), held: &[u8], input: Input) -> Receipt
     requires came { Came held.now input }
-    requires unread { input.failed ≡ true }
+    requires unread { has_failed input ≡ true }
     ensures none { result.bytes ≡ 0 }
 {
     tell(
         rt,
-        STDERR_FILENO,
+        Stream::Errors,
         b"clearmap: the input could not be read to its end\n",
     );
     Receipt { bytes: 0 }

@@ -1,44 +1,74 @@
 -- The needs of the checks and of the answer, over plain variables. Assumes nothing.
-use mathlib.Core.Path.{◌≡◌, sym, ap, ◌∙◌, subst}
-use mathlib.Core.Bool.{Bool, true, false, cond}
-use mathlib.Core.List.{List, [], ◌++◌}
-use Prim.Native.Nat.{ℕ, zero, suc, ◌+◌, ◌*◌, ◌≤◌, ◌<◌}
-use native.Mathlib.Nat.{mul-le-mul}
-use native.Mathlib.Omega.{arith}
-use lib.Dec.{T, leb, eqb}
-use lib.ListN.{length}
-use mir.Syntax.{w64}
-use mir.Val.{Fits}
-use borrow.Author.Tests.{lt-leb, le-leb, leb-true, eq-eqb, ne_eqb}
+use Rattle.std.proofs.Common.{◌≡◌, refl, sym, ap, ◌∙◌, subst, Bool, true, false, cond, List, [], ◌++◌, ℕ, zero, suc, ◌+◌, ◌*◌, ◌≤◌, ◌<◌, leb, eqb, length, get_or, take, slice_index_or, All, arith, eqb-true, eq-eqb, ne_eqb, length-take-le, Fits, w64, Result, Ok, Err}
+use Rattle.std.proofs.Math.Nat.{mul-le-mul}
+use Rattle.std.proofs.lemmas.List.{get_or-take, get_or_default}
+use borrow.Author.Tests.{lt-leb, le-leb}
 use Rattle.model.specs.declared.Job.{Job}
-use Rattle.model.specs.declared.Grid.{Grid}
+use Rattle.model.specs.Answers.{Grid, as_grid, meant, number_of}
+use Rattle.model.specs.declared.Refusal.{Refusal}
 use Rattle.model.specs.Refusals as refused
-use Rattle.model.specs.Refusals.{check, first, accepted}
+use Rattle.model.specs.Refusals.{check, accepted}
 use Rattle.model.specs.Jobs.{own, judge}
 use Rattle.model.specs.Plates.{columns, cells_of}
 use Rattle.model.specs.Entries.{grid}
 use Rattle.model.specs.Promises.{MapHolds}
-use Rattle.ranges.specs.Refusals.{all_pass, passed_all, when_passed, when_refused, accepted_is, refused_is}
+use Rattle.ranges.specs.Refusals.{when_passed, when_refused, accepted_is, refused_is, some_number}
 use Rattle.clearance.specs.Demands.{grid_few}
 use Rattle.table_four.specs.declared.Clamp.{Clamp}
-use Rattle.table_four.specs.declared.Placed.{Placed}
-use Rattle.table_four.specs.declared.Checked.{Checked}
-use Rattle.table_four.specs.Table.{leading, every, is_letter, on_plate, clamp_at, clear_cells, clear_rows, clear_clamps, place_checks, place_refusal, turned_away, gone, either, stopped, placed_by, place}
+use Rattle.table_four.specs.declared.Placed.{Placed as Told}
+use Rattle.table_four.specs.Answers.{Placed, as_placed}
+use Rattle.table_four.specs.declared.Stop.{Stop}
+use Rattle.table_four.specs.Table.{leading, every, is_letter, letter_byte, on_plate, clamp_at, clear_cells, clear_rows, clear_clamps, place_refusal, turned_away, gone, either, stopped, placed_by, place}
 use Rattle.table_four.specs.Promises.{GoMeans}
-use Rattle.table_four.specs.Leading.{not_all, leading_stop}
-use Rattle.table_four.specs.Places.{Within, placed_on}
+use Rattle.table_four.specs.Leading.{every_first}
+use Rattle.table_four.specs.Places.{Within, four_in, on_is}
+use Rattle.table_four.specs.Stops.{FirstCell, FirstStop}
+use Rattle.table_four.proofs.Loops.{leading_is, leading_all}
 use Rattle.table_four.proofs.Go.{go_true}
 
--- a map's side is no longer than all of its cells
-pub row_fits : (n : ℕ) → n ≤ n * n
-row_fits zero = omega arith
-row_fits (suc n) = omega arith
+-- ---- a test of the four clamps, and of a map's first cells, as all of them pass it
+four_at : (cs : List ℕ) (m : ℕ) (d : Clamp) → m < 4 → slice_index_or (four_in cs) m d ≡ clamp_at cs m
+four_at cs zero d h = refl
+four_at cs (suc zero) d h = refl
+four_at cs (suc (suc zero)) d h = refl
+four_at cs (suc (suc (suc zero))) d h = refl
+four_at cs (suc (suc (suc (suc m)))) d h = absurd (omega arith)
+
+untrue : (b : Bool) → (b ≡ true → ⊥) → b ≡ false
+untrue true h = absurd (h refl)
+untrue false h = refl
+
+module _ (f : ℕ → Bool) (k : ℕ) where
+  every_true : ((m : ℕ) → m < k → f m ≡ true) → every f k 0 ≡ true
+  every_true h = eq-eqb (leading f k 0) k (leading_all f k 0 (λ m l. ap f (let z : 0 + m ≡ m = omega arith in z) ∙ h m l))
+
+  every_false : (((m : ℕ) → m < k → f m ≡ true) → ⊥) → every f k 0 ≡ false
+  every_false h = untrue (every f k 0) (λ e. h (λ m l. every_first f k m e l))
+
+module _ (f : Clamp → Bool) (cs : List ℕ) where
+  four_pass : All (λ c. f c ≡ true) (four_in cs) → (m : ℕ) → m < 4 → f (clamp_at cs m) ≡ true
+  four_pass all m h = ap f (sym (four_at cs m (clamp_at cs m) h)) ∙ all m (clamp_at cs m) h
+
+  pub four_true : All (λ c. f c ≡ true) (four_in cs) → every (λ k. f (clamp_at cs k)) 4 0 ≡ true
+  four_true all = every_true (λ k. f (clamp_at cs k)) 4 (four_pass all)
+
+  pub four_false : (All (λ c. f c ≡ true) (four_in cs) → ⊥) → every (λ k. f (clamp_at cs k)) 4 0 ≡ false
+  four_false h = every_false (λ k. f (clamp_at cs k)) 4 (λ all. h (λ m d l. ap f (four_at cs m d l) ∙ all m l))
+
+module _ (cells : List ℕ) (k : ℕ) (room : k ≤ length cells) where
+  long : length (take k cells) ≡ k
+  long = length-take-le k cells room
+
+  at : (m : ℕ) → m < k → get_or (take k cells) m 0 ≡ get_or cells m 0
+  at m h = get_or-take k cells m 0 h
+
+  pub letters_true : All (λ b. letter_byte b ≡ true) (take k cells) → every (is_letter cells) k 0 ≡ true
+  letters_true all = every_true (is_letter cells) k (λ m h. ap letter_byte (sym (at m h)) ∙ all m 0 (omega (arith, long, h)))
+
+  pub letters_false : (All (λ b. letter_byte b ≡ true) (take k cells) → ⊥) → every (is_letter cells) k 0 ≡ false
+  letters_false h = every_false (is_letter cells) k (λ all. h (λ m d l. let i : m < k = omega (arith, long, l) in ap letter_byte (get_or_default (take k cells) m d 0 l ∙ at m i) ∙ all m i))
 
 module _ (j : Job) (cells cs : List ℕ) where
-  -- a refusal that is told, with no side
-  pub told : (k : ℕ) (r : Checked) → r.refusal ≡ k → (k ≡ 0 → ⊥) → k ≡ place_refusal j cells cs → (r.refusal ≡ place_refusal j cells cs) × (r.refusal ≡ 0 → r.side ≡ columns j)
-  told k r e h q = (e ∙ q, λ z. absurd (h (sym e ∙ z)))
-
   abbrev Roomy : Bool
   Roomy = leb (cells_of j) (length cells)
 
@@ -52,107 +82,99 @@ module _ (j : Job) (cells cs : List ℕ) where
   unfolding place_refusal judge
   by_own e = when_passed (own j []) (check refused.space Roomy ++ (check refused.off_plate OnAll ++ check refused.letter Lettered)) e
 
-  module _ (g : Grid) (q : g ≡ grid j) where
-    judged : g.refusal ≡ judge j
-    unfolding grid
-    judged = ap (λ (u : Grid). u.refusal) q
+  -- ---- a refusal, by its number
+  pub refused_as : {k : ℕ} → k ≡ place_refusal j cells cs → (k ≡ 0 → ⊥) → turned_away k ≡ place j cells cs
+  unfolding place
+  refused_as e h = ap turned_away e ∙ sym (refused_is (place_refusal j cells cs) (placed_by (columns j) cells cs (clear_clamps (columns j) cells cs)) (turned_away (place_refusal j cells cs)) (λ z. h (e ∙ z)))
 
-    pub few : g.side ≤ 256
+  -- the job's own
+  judged : (r : Result ℕ Refusal) → as_grid r ≡ grid j → (as_grid r).refusal ≡ judge j
+  unfolding grid
+  judged r q = ap (λ (u : Grid). u.refusal) q
+
+  pub own_refused : (k : Refusal) (r : Result Told Refusal) → as_grid (Err k) ≡ grid j → r ≡ Err k → as_placed r ≡ place j cells cs
+  unfolding place_refusal judge
+  own_refused k r q e =
+      let above : number_of k ≡ 0 → ⊥ = λ z. omega (arith, some_number (meant k), z) in
+      let own : number_of k ≡ place_refusal j cells cs = judged (Err k) q ∙ sym (when_refused (own j []) (check refused.space Roomy ++ (check refused.off_plate OnAll ++ check refused.letter Lettered)) (λ z. above (judged (Err k) q ∙ z))) in
+      ap as_placed e ∙ refused_as own above
+
+  -- ---- an accepted job
+  module _ {side : ℕ} (q : as_grid (Ok side) ≡ grid j) where
+    pub few : side ≤ 256
     few = omega (arith, grid_few j, ap (λ (u : Grid). u.side) q)
 
-    pub square : Fits w64 (g.side * g.side)
+    pub square : Fits w64 (side * side)
     square = record { fits = omega (arith, mul-le-mul few few) }
 
-    pub own_refused : (g.refusal ≡ 0 → ⊥) → g.refusal ≡ place_refusal j cells cs
-    unfolding place_refusal judge
-    own_refused h = judged ∙ sym (when_refused (own j []) (check refused.space Roomy ++ (check refused.off_plate OnAll ++ check refused.letter Lettered)) (λ z. h (judged ∙ z)))
-
-    module _ (e : g.refusal ≡ 0) where
-      pub side_is : g.side ≡ columns j
-      unfolding grid
-      side_is = ap (λ (u : Grid). u.side) q ∙ accepted_is (judge j) (columns j) 0 (sym judged ∙ e)
-
-      cells_are : g.side * g.side ≡ cells_of j
-      cells_are = ap (λ (n : ℕ). n * n) side_is
-
-      chain : place_refusal j cells cs ≡ cond Roomy (cond OnAll (cond Lettered 0 11) 10) 7
-      chain = by_own (sym judged ∙ e)
-
-      pub too_short : length cells < g.side * g.side → 7 ≡ place_refusal j cells cs
-      too_short h = sym (chain ∙ ap (λ (b : Bool). cond b (cond OnAll (cond Lettered 0 11) 10) 7) (lt-leb (cells_of j) (length cells) (omega (arith, h, cells_are))))
-
-      module _ (h : g.side * g.side ≤ length cells) where
-        chain₂ : place_refusal j cells cs ≡ cond OnAll (cond Lettered 0 11) 10
-        chain₂ = chain ∙ ap (λ (b : Bool). cond b (cond OnAll (cond Lettered 0 11) 10) 7) (le-leb (cells_of j) (length cells) (omega (arith, h, cells_are)))
-
-        module _ (r : ℕ) (on : r ≡ leading (λ k. on_plate g.side (clamp_at cs k)) 4 0) where
-          all_on : r ≡ leading (λ k. on_plate (columns j) (clamp_at cs k)) 4 0
-          all_on = on ∙ ap (λ (n : ℕ). leading (λ k. on_plate n (clamp_at cs k)) 4 0) side_is
-
-          pub off_plate_is : (r ≡ 4 → ⊥) → 10 ≡ place_refusal j cells cs
-          off_plate_is w = sym (chain₂ ∙ ap (λ (b : Bool). cond b (cond Lettered 0 11) 10) (ne_eqb (leading (λ k. on_plate (columns j) (clamp_at cs k)) 4 0) 4 (λ z. w (all_on ∙ z))))
-
-          module _ (w : r ≡ 4) where
-            chain₃ : place_refusal j cells cs ≡ cond Lettered 0 11
-            chain₃ = chain₂ ∙ ap (λ (b : Bool). cond b (cond Lettered 0 11) 10) (eq-eqb (leading (λ k. on_plate (columns j) (clamp_at cs k)) 4 0) 4 (sym all_on ∙ w))
-
-            module _ (s : ℕ) (read : s ≡ leading (is_letter cells) (g.side * g.side) 0) where
-              all_read : s ≡ leading (is_letter cells) (cells_of j) 0
-              all_read = read ∙ ap (λ (n : ℕ). leading (is_letter cells) n 0) cells_are
-
-              pub no_letter : (s ≡ g.side * g.side → ⊥) → 11 ≡ place_refusal j cells cs
-              no_letter v = sym (chain₃ ∙ ap (λ (b : Bool). cond b 0 11) (ne_eqb (leading (is_letter cells) (cells_of j) 0) (cells_of j) (λ z. v (all_read ∙ z ∙ sym cells_are))))
-
-              pub all_well : s ≡ g.side * g.side → 0 ≡ place_refusal j cells cs
-              all_well v = sym (chain₃ ∙ ap (λ (b : Bool). cond b 0 11) (eq-eqb (leading (is_letter cells) (cells_of j) 0) (cells_of j) (sym all_read ∙ v ∙ cells_are)))
-
-  -- ---- the answer
-  pub refused_answer : (k : ℕ) → k ≡ place_refusal j cells cs → (k ≡ 0 → ⊥) → record { refusal = k; go = false; clamp = 0; column = 0; row = 0 } ≡ place j cells cs
-  unfolding place
-  refused_answer k e h = ap turned_away e ∙ sym (refused_is (place_refusal j cells cs) (placed_by (columns j) cells cs (clear_clamps (columns j) cells cs)) (turned_away (place_refusal j cells cs)) (λ z. h (e ∙ z)))
-
-  module _ (k : ℕ) (e : k ≡ place_refusal j cells cs) (z : k ≡ 0) where
-    answer : place j cells cs ≡ placed_by (columns j) cells cs (clear_clamps (columns j) cells cs)
-    unfolding place
-    answer = accepted_is (place_refusal j cells cs) (placed_by (columns j) cells cs (clear_clamps (columns j) cells cs)) (turned_away (place_refusal j cells cs)) (sym e ∙ z)
-
-    roomy : Roomy ≡ true
-    unfolding place_refusal
-    roomy = (passed_all (place_checks j cells cs) (sym e ∙ z)).1.1.1.0
-
-    legal_job : judge j ≡ 0
-    unfolding place_refusal judge
-    legal_job = let p = passed_all (place_checks j cells cs) (sym e ∙ z) in all_pass (own j []) (p.0, (p.1.0, (p.1.1.0, tt)))
-
-    side_few : columns j ≤ 256
+    side_is : side ≡ columns j
     unfolding grid
-    side_few = omega (arith, grid_few j, accepted_is (judge j) (columns j) 0 legal_job)
+    side_is = ap (λ (u : Grid). u.side) q ∙ accepted_is (judge j) (columns j) 0 (sym (judged (Ok side) q))
 
-    module _ (n : ℕ) (side : n ≡ columns j) where
-      pub within : (m : ℕ) → m < 4 → Within n cells (clamp_at cs m)
-      within m l = rw side (record { on = placed_on j cells cs (sym e ∙ z) m l; few = side_few; room = leb-true (cells_of j) (length cells) roomy })
+    cells_are : side * side ≡ cells_of j
+    cells_are = ap (λ (n : ℕ). n * n) side_is
 
-      module _ (m : ℕ) (clear : m ≡ clear_clamps n cells cs) where
-        clears : m ≡ clear_clamps (columns j) cells cs
-        clears = clear ∙ ap (λ (u : ℕ). clear_clamps u cells cs) side
+    chain : place_refusal j cells cs ≡ cond Roomy (cond OnAll (cond Lettered 0 11) 10) 7
+    chain = by_own (sym (judged (Ok side) q))
 
-        pub go_answer : m ≡ 4 → gone ≡ place j cells cs
-        unfolding placed_by
-        go_answer w = sym (answer ∙ ap (λ (b : Bool). either b gone (stopped (columns j) cells (clamp_at cs (clear_clamps (columns j) cells cs)) (clear_clamps (columns j) cells cs))) (eq-eqb (clear_clamps (columns j) cells cs) 4 (sym clears ∙ w)))
+    pub too_short : length cells < side * side → turned_away 7 ≡ place j cells cs
+    too_short h = refused_as {k = 7} (sym (chain ∙ ap (λ (b : Bool). cond b (cond OnAll (cond Lettered 0 11) 10) 7) (lt-leb (cells_of j) (length cells) (omega (arith, h, cells_are))))) (λ z. omega (arith, z))
 
-        module _ (w : m ≡ 4 → ⊥) where
-          pub of_four : m < 4
-          of_four = subst (λ (u : ℕ). u < 4) (sym clear) (not_all (λ k. eqb (clear_rows n cells (clamp_at cs k)) (clamp_at cs k).rows) 4 0 (λ q. w (clear ∙ q)))
+    module _ (h : side * side ≤ length cells) where
+      chain₂ : place_refusal j cells cs ≡ cond OnAll (cond Lettered 0 11) 10
+      chain₂ = chain ∙ ap (λ (b : Bool). cond b (cond OnAll (cond Lettered 0 11) 10) 7) (le-leb (cells_of j) (length cells) (omega (arith, h, cells_are)))
 
-          pub some_row : (c : Clamp) → c ≡ clamp_at cs m → clear_rows n cells c < c.rows
-          some_row c q = rw q (not_all (λ r. eqb (clear_cells n cells (clamp_at cs m) r) (clamp_at cs m).columns) (clamp_at cs m).rows (clamp_at cs m).row (λ v. absurd (subst T (sym (stop ∙ eq-eqb (clear_rows n cells (clamp_at cs m)) (clamp_at cs m).rows v)) tt)))
-            where
-              stop : false ≡ eqb (clear_rows n cells (clamp_at cs m)) (clamp_at cs m).rows
-              stop = sym (ap (λ (k : ℕ). eqb (clear_rows n cells (clamp_at cs k)) (clamp_at cs k).rows) (let v : m ≡ 0 + clear_clamps n cells cs = omega (arith, clear) in v) ∙ leading_stop (λ k. eqb (clear_rows n cells (clamp_at cs k)) (clamp_at cs k).rows) 4 0 (subst (λ (u : ℕ). u < 4) clear of_four))
+      pub off_plate_is : (All (λ c. on_plate side c ≡ true) (four_in cs) → ⊥) → turned_away 10 ≡ place j cells cs
+      off_plate_is w = refused_as {k = 10} (sym (chain₂ ∙ ap (λ (b : Bool). cond b (cond Lettered 0 11) 10) (four_false (on_plate (columns j)) cs (subst (λ (n : ℕ). All (λ c. on_plate n c ≡ true) (four_in cs) → ⊥) side_is w)))) (λ z. omega (arith, z))
 
-          pub stop_answer : (c : Clamp) → c ≡ clamp_at cs m → (p : Placed) → p ≡ stopped n cells c m → p ≡ place j cells cs
+      module _ (on : All (λ c. on_plate side c ≡ true) (four_in cs)) where
+        chain₃ : place_refusal j cells cs ≡ cond Lettered 0 11
+        chain₃ = chain₂ ∙ ap (λ (b : Bool). cond b (cond Lettered 0 11) 10) (four_true (on_plate (columns j)) cs (subst (λ (n : ℕ). All (λ c. on_plate n c ≡ true) (four_in cs)) side_is on))
+
+        pub no_letter : (All (λ b. letter_byte b ≡ true) (take (side * side) cells) → ⊥) → turned_away 11 ≡ place j cells cs
+        no_letter w = refused_as {k = 11} (sym (chain₃ ∙ ap (λ (b : Bool). cond b 0 11) (ap (λ (n : ℕ). every (is_letter cells) n 0) (sym cells_are) ∙ letters_false cells (side * side) h w))) (λ z. omega (arith, z))
+
+        pub within : All (Within side cells) (four_in cs)
+        within m d l = record { on = on_is side _ (on m d l); few = few; room = h }
+
+        module _ (all : All (λ b. letter_byte b ≡ true) (take (side * side) cells)) where
+          well : place_refusal j cells cs ≡ 0
+          well = chain₃ ∙ ap (λ (b : Bool). cond b 0 11) (ap (λ (n : ℕ). every (is_letter cells) n 0) (sym cells_are) ∙ letters_true cells (side * side) h all)
+
+          answer : place j cells cs ≡ placed_by (columns j) cells cs (clear_clamps (columns j) cells cs)
+          unfolding place
+          answer = accepted_is (place_refusal j cells cs) (placed_by (columns j) cells cs (clear_clamps (columns j) cells cs)) (turned_away (place_refusal j cells cs)) well
+
+          at_side : placed_by (columns j) cells cs (clear_clamps (columns j) cells cs) ≡ placed_by side cells cs (clear_clamps side cells cs)
+          at_side = ap (λ (n : ℕ). placed_by n cells cs (clear_clamps n cells cs)) (sym side_is)
+
+          clear_is : (c : Clamp) → clear_rows side cells c ≡ c.rows → eqb (clear_rows side cells c) c.rows ≡ true
+          clear_is c e = eq-eqb (clear_rows side cells c) c.rows e
+
+          pub go_answer : All (λ c. clear_rows side cells c ≡ c.rows) (four_in cs) → gone ≡ place j cells cs
           unfolding placed_by
-          stop_answer c q p r = r ∙ ap (λ (d : Clamp). stopped n cells d m) q ∙ ap (λ (u : ℕ). stopped u cells (clamp_at cs m) m) side ∙ ap (λ (u : ℕ). stopped (columns j) cells (clamp_at cs u) u) clears ∙ sym (answer ∙ ap (λ (b : Bool). either b gone (stopped (columns j) cells (clamp_at cs (clear_clamps (columns j) cells cs)) (clear_clamps (columns j) cells cs))) (ne_eqb (clear_clamps (columns j) cells cs) 4 (λ v. w (clears ∙ v))))
+          go_answer clear =
+              let e = eqb-true _ _ (four_true (λ c. eqb (clear_rows side cells c) c.rows) cs (λ m d l. clear_is _ (clear m d l))) in
+              sym (answer ∙ at_side ∙ ap (λ (b : Bool). either b gone (stopped side cells (clamp_at cs (clear_clamps side cells cs)) (clear_clamps side cells cs))) (eq-eqb (clear_clamps side cells cs) 4 e))
 
-  pub go_of : (p : Placed) → p ≡ place j cells cs → p.go ≡ true → MapHolds j cells → GoMeans j cs
-  go_of p q e = go_true j cells cs (ap (λ (u : Placed). u.go) (sym q) ∙ e)
+          pub stop_answer : (s : Stop) → FirstStop side cells (four_in cs) s → record { refusal = 0; go = false; clamp = s.clamp; column = s.cell.column; row = s.cell.row } ≡ place j cells cs
+          unfolding placed_by
+          stop_answer s f = named ∙ sym (answer ∙ at_side ∙ ap (λ (k : ℕ). placed_by side cells cs k) first ∙ ap (λ (b : Bool). either b gone (stopped side cells (clamp_at cs s.clamp) s.clamp)) (ne_eqb s.clamp 4 (λ z. omega (arith, f.there, z))))
+            where
+              cell : FirstCell side cells (clamp_at cs s.clamp) s.cell
+              cell = subst (λ (c : Clamp). FirstCell side cells c s.cell) (four_at cs s.clamp (clamp_at cs s.clamp) f.there) (f.here (clamp_at cs s.clamp))
+
+              first : clear_clamps side cells cs ≡ s.clamp
+              first =
+                  leading_is (λ k. eqb (clear_rows side cells (clamp_at cs k)) (clamp_at cs k).rows) 4 0 s.clamp f.there
+                  (λ m l. subst (λ (k : ℕ). eqb (clear_rows side cells (clamp_at cs k)) (clamp_at cs k).rows ≡ true) (let z : m ≡ 0 + m = omega arith in z) (subst (λ (c : Clamp). eqb (clear_rows side cells c) c.rows ≡ true) (four_at cs m (clamp_at cs m) (omega (arith, f.there, l))) (clear_is _ (f.before m (clamp_at cs m) l))))
+                  (subst (λ (k : ℕ). eqb (clear_rows side cells (clamp_at cs k)) (clamp_at cs k).rows ≡ false) (let z : s.clamp ≡ 0 + s.clamp = omega arith in z) (ne_eqb (clear_rows side cells (clamp_at cs s.clamp)) (clamp_at cs s.clamp).rows (λ z. omega (arith, cell.some, z))))
+
+              named : record { refusal = 0; go = false; clamp = s.clamp; column = s.cell.column; row = s.cell.row } ≡ stopped side cells (clamp_at cs s.clamp) s.clamp
+              named = λ t. record { refusal = 0; go = false; clamp = s.clamp; column = column t; row = cell.row_is t }
+                where
+                  column : s.cell.column ≡ (clamp_at cs s.clamp).column + clear_cells side cells (clamp_at cs s.clamp) ((clamp_at cs s.clamp).row + clear_rows side cells (clamp_at cs s.clamp))
+                  column = cell.column_is ∙ ap (λ (r : ℕ). (clamp_at cs s.clamp).column + clear_cells side cells (clamp_at cs s.clamp) r) cell.row_is
+
+          pub go_means : All (λ c. clear_rows side cells c ≡ c.rows) (four_in cs) → MapHolds j cells → GoMeans j cs
+          go_means clear = go_true j cells cs (ap (λ (p : Placed). p.go) (sym (go_answer clear)))

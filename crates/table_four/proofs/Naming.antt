@@ -7,7 +7,7 @@ use Rattle.model.specs.declared.Job.{Job}
 use Rattle.model.specs.Plates.{columns}
 use Rattle.ranges.specs.Refusals.{accepted_is, refused_is}
 use Rattle.table_four.specs.declared.Clamp.{Clamp}
-use Rattle.table_four.specs.declared.Placed.{Placed}
+use Rattle.table_four.specs.Answers.{Placed}
 use Rattle.table_four.specs.Table.{clamp_at, is_clear, clear_cells, clear_rows, clear_clamps, place_refusal, turned_away, gone, stopped, either, placed_by, place}
 use Rattle.table_four.specs.Leading.{leading_pass, leading_stop, not_all}
 use Rattle.table_four.specs.Clear.{gone_is, clamp_clear, clamps_clear}

@@ -4,7 +4,7 @@ use Rattle.std.proofs.Common.{sym, ◌∙◌, subst, arith, eqb-true}
 use Rattle.model.specs.declared.Job.{Job}
 use Rattle.model.specs.Refusals.{accepted}
 use Rattle.model.specs.Plates.{columns}
-use Rattle.table_four.specs.declared.Placed.{Placed}
+use Rattle.table_four.specs.Answers.{Placed}
 use Rattle.table_four.specs.declared.Clamp.{Clamp}
 use Rattle.table_four.specs.Table.{clamp_at, is_clear, clear_cells, clear_rows, clear_clamps, place_refusal, turned_away, gone, stopped, either, placed_by, place}
 use Rattle.table_four.specs.Leading.{leading_pass, every_pass, leading_first}

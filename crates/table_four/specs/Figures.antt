@@ -12,7 +12,7 @@ use Rattle.model.specs.Figures.{sample}
 use Rattle.model.specs.PointFigures.{over, point, spot, Is}
 use Rattle.model.specs.CaseFigures.{order}
 use Rattle.table_four.specs.declared.Clamp.{Clamp}
-use Rattle.table_four.specs.declared.Placed.{Placed}
+use Rattle.table_four.specs.Answers.{Placed}
 use Rattle.table_four.specs.Table.{leading, every, clamp_at, lies, on_plate, letter_byte, turned_away, gone, place_refusal, placed_by, place}
 use Rattle.table_four.specs.Cases.{UnderCell, place_table}
 use Rattle.table_four.specs.Promises.{Under}

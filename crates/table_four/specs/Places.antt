@@ -1,5 +1,5 @@
 -- A clamp that is on the plate, and what the code's steps ask of it. Assumes nothing.
-use Rattle.std.specs.Prelude.{◌≡◌, true, List, ℕ, ◌+◌, ◌*◌, ◌-◌, ◌≤◌, ◌<◌, leb, ltb, length}
+use Rattle.std.specs.Prelude.{◌≡◌, true, List, [], ◌∷◌, ℕ, ◌+◌, ◌*◌, ◌-◌, ◌≤◌, ◌<◌, leb, ltb, length}
 use Rattle.std.proofs.Common.{arith, ltb-true}
 use Rattle.integers.specs.Tests.{both, le_of}
 use Rattle.model.specs.declared.Job.{Job}
@@ -8,6 +8,10 @@ use Rattle.ranges.specs.Refusals.{passed_all}
 use Rattle.table_four.specs.declared.Clamp.{Clamp}
 use Rattle.table_four.specs.Table.{clamp_at, lies, on_plate, place_checks, place_refusal}
 use Rattle.table_four.specs.Leading.{every_first}
+
+-- the four clamps that 16 numbers are
+abbrev pub four_in : List ℕ → List Clamp
+four_in cs = clamp_at cs 0 ∷ clamp_at cs 1 ∷ clamp_at cs 2 ∷ clamp_at cs 3 ∷ []
 
 pub record On (n : ℕ) (c : Clamp) : Type 0 where
   pub some_columns : 1 ≤ c.columns

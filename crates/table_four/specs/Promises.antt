@@ -9,7 +9,7 @@ use Rattle.model.specs.Exact.{Outline, Clear}
 use Rattle.model.specs.Entries as entries
 use Rattle.model.specs.Promises.{MapHolds, byte_at}
 use Rattle.table_four.specs.declared.Clamp.{Clamp}
-use Rattle.table_four.specs.declared.Placed.{Placed}
+use Rattle.table_four.specs.Answers.{Placed}
 use Rattle.table_four.specs.Table.{clamp_at, place}
 use Rattle.table_four.specs.Cases.{UnderCell, place_table}
 

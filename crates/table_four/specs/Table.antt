@@ -6,7 +6,7 @@ use Rattle.model.specs.Refusals.{Checks, check, first, accepted}
 use Rattle.model.specs.Jobs.{own}
 use Rattle.model.specs.Plates.{letter, clear, within, doubtful, columns, cells_of}
 use Rattle.table_four.specs.declared.Clamp.{Clamp}
-use Rattle.table_four.specs.declared.Placed.{Placed}
+use Rattle.table_four.specs.Answers.{Placed}
 
 -- ---- how many of k, from i on, pass a test before the first that does not; and whether all do
 abbrev pub onward : Bool → ℕ → ℕ

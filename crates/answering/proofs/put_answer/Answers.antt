@@ -1,32 +1,20 @@
-use Rattle.std.proofs.Common.{◌≡◌, length, rules, subst, arith}
-use native.Mathlib.Nat.{mul-le-mul}
-use Rattle.model.specs.Printing.{map_answered}
+-- What `answering::put_answer` leaves: a map's text, or the line of its refusal.
+use Rattle.std.proofs.Common.{◌∙◌, ap, subst, ◌∷◌, []}
+use Rattle.std.specs.Prelude.{pos}
+use Rattle.model.specs.Forms.{write_form}
+use Rattle.model.specs.Printing.{refused_form, map_answered}
 use Rattle.formatting.specs.Puts.{Put}
 use Rattle.answering.proofs.Replies as steps
 use Rattle.answering.proofs.put_answer.Goals as goal
 
-pub returns-then-refusal-gt0-clause-wrote : goal.returns-then-refusal-gt0-clause-wrote
+pub returns-in-Ok-clause-wrote : goal.returns-in-Ok-clause-wrote
 unfolding map_answered
-returns-then-refusal-gt0-clause-wrote c =
-    let m = c.map-done in
-    let p = c.put_refusal in
-    subst (Put c.args.out.now p.new.out 0 p.result) (steps.refused c.args.job _ _ m.result m.ensures.answer c.if-refusal-gt0.true) p.ensures.wrote
-
-pub put_map-requires : goal.put_map-requires
-put_map-requires c =
-    let m = c.map-done in
-    let n = c.grid-grid in
-    let l : length m.new.cells ≡ 65536 = search rules in
-    let f = steps.side_few c.args.job n.result n.ensures.answer in
-    record { sizes = (f, omega (arith, mul-le-mul f f), c.requires.space) }
-
-pub returns-clause-wrote : goal.returns-clause-wrote
-unfolding map_answered
-returns-clause-wrote c =
-    let j = c.args.job in
-    let m = c.map-done in
-    let n = c.grid-grid in
+returns-in-Ok-clause-wrote c =
     let p = c.put_map in
-    let z : m.result.refusal ≡ 0 = omega (arith, c.if-refusal-gt0.false) in
-    let drawn = steps.drawn j _ _ m.result m.ensures.answer _ n.result.side z m.ensures.letters (steps.side_is j n.result n.ensures.answer (steps.judged j _ _ m.result m.ensures.answer z)) in
-    subst (Put c.args.out.now p.new.out 0 p.result) drawn p.ensures.wrote
+    subst (Put c.args.out.now p.new.out 0 p.result) (steps.drawn c.args.job _ _ c.draw.new.cells c.in-Ok.side c.in-Ok.ensures.refusal c.in-Ok.ensures.letters c.in-Ok.ensures.side.0) p.ensures.wrote
+
+pub returns-in-Err-clause-wrote : goal.returns-in-Err-clause-wrote
+unfolding map_answered
+returns-in-Err-clause-wrote c =
+    let p = c.put_refused in
+    subst (Put c.args.out.now p.new.out 0 p.result) (ap (λ n. write_form refused_form (pos n ∷ [])) c.from.ensures ∙ steps.refused c.args.job _ _ c.in-Err.refusal c.in-Err.ensures.refusal) p.ensures.wrote

@@ -1,17 +1,18 @@
-use Rattle.std.proofs.Common.{◌≡◌, subst, arith}
+-- What `answering::put_printed` leaves: the answer to the sheet's job, or the line of its refusal.
+use Rattle.std.proofs.Common.{◌∙◌, ap, subst, ◌∷◌, []}
+use Rattle.std.specs.Prelude.{pos}
+use Rattle.model.specs.Forms.{write_form}
+use Rattle.model.specs.Printing.{refused_form}
 use Rattle.formatting.specs.Puts.{Put}
 use Rattle.answering.proofs.Replies as steps
 use Rattle.answering.proofs.put_printed.Goals as goal
 
-pub returns-then-refusal-gt0-clause-wrote : goal.returns-then-refusal-gt0-clause-wrote
-returns-then-refusal-gt0-clause-wrote c =
-    let r = c.read-got in
-    let p = c.put_refusal in
-    subst (Put c.args.out.now p.new.out 0 p.result) (steps.sheet_refused c.args.sheet.now r.result r.ensures.answer c.if-refusal-gt0.true) p.ensures.wrote
-
-pub returns-clause-wrote : goal.returns-clause-wrote
-returns-clause-wrote c =
-    let r = c.read-got in
+pub returns-in-Ok-clause-wrote : goal.returns-in-Ok-clause-wrote
+returns-in-Ok-clause-wrote c =
     let p = c.put_answer in
-    let z : r.result.refusal ≡ 0 = omega (arith, c.if-refusal-gt0.false) in
-    subst (Put c.args.out.now p.new.out 0 p.result) (steps.sheet_read c.args.sheet.now r.result r.ensures.answer z) p.ensures.wrote
+    subst (Put c.args.out.now p.new.out 0 p.result) (steps.sheet_read c.args.sheet.now c.in-Ok.job c.in-Ok.ensures.answer) p.ensures.wrote
+
+pub returns-in-Err-clause-wrote : goal.returns-in-Err-clause-wrote
+returns-in-Err-clause-wrote c =
+    let p = c.put_refused in
+    subst (Put c.args.out.now p.new.out 0 p.result) (ap (λ n. write_form refused_form (pos n ∷ [])) c.from.ensures ∙ steps.sheet_refused c.args.sheet.now c.in-Err.refusal c.in-Err.ensures.answer) p.ensures.wrote

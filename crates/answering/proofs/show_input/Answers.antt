@@ -8,4 +8,4 @@ hand_on-requires-clause-answer g c =
     let i = c.read_input-input in
     let p = c.put_front-end in
     let room : 8193 ≤ length i.new.held = omega (arith, c.requires.space, i.auto.held) in
-    λ input e. p.ensures.wrote.wrote ∙ ap (λ n. printed (take n i.new.held)) c.bytes_of-k.ensures.count ∙ answers_input i.new.held i.result.count room input e
+    λ input e. p.ensures.wrote.wrote ∙ ap (λ n. printed (take n i.new.held)) c.bytes_of.ensures.count ∙ answers_input i.new.held i.result.count room input e

@@ -1,9 +1,6 @@
-use Rattle.std.proofs.Common.{◌-◌, ◌≤◌}
+-- What the loop of `answering::map_text::put_rows` keeps: j rows are written.
 use Rattle.answering.proofs.MapText.{Rows}
 use Rattle.answering.proofs.map_text.put_rows.Given as goal
 
 abbrev pub invariant-loop-j : goal.invariant-loop-j
-invariant-loop-j l = Rows l.initial.out l.out l.at l.i l.cells l.n l.j × (l.j ≤ l.n)
-
-abbrev pub decreases-loop-j : goal.decreases-loop-j
-decreases-loop-j l = l.n - l.j
+invariant-loop-j l = Rows l.initial.out l.out l.at l.next l.cells l.n l.j

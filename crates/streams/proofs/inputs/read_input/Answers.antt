@@ -1,9 +1,10 @@
+-- A turn of the loop of `streams::inputs::read_input` is one read more.
 use Rattle.std.proofs.Common.{refl, sym, ◌∙◌}
 use Rattle.streams.proofs.Turns.{at_first, turn, fewer}
 use Rattle.streams.proofs.inputs.read_input.Goals as goal
 
 pub loop-reader-init : goal.loop-reader-init
-loop-reader-init g c = (refl, rw c.none_read-input.ensures.nothing (at_first c.args.held.now))
+loop-reader-init g c = (refl, at_first c.args.held.now)
 
 pub loop-reader-smaller : goal.loop-reader-smaller
 loop-reader-smaller g c =
