@@ -8,7 +8,7 @@ use Rattle.std.proofs.Math.Dec.{lit<}
 use Rattle.std.proofs.lemmas.List.{set-get_or}
 use Rattle.sequences.specs.Tables.{table}
 use Rattle.model.specs.declared.Job.{Job}
-use Rattle.model.specs.declared.Read.{Read}
+use Rattle.model.specs.Answers.{Read}
 use Rattle.model.specs.Bytes.{Got, got, bytes, digit}
 use Rattle.model.specs.Numbers.{text, decimal, number}
 use Rattle.model.specs.Forms.{write_form}
