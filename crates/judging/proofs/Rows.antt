@@ -3,7 +3,7 @@ use Rattle.std.specs.Prelude.{◌≡◌, Bool, true, false, ◌&&◌, List, [], 
 use Rattle.std.specs.List.{list_all}
 use Rattle.std.proofs.Math.Path.{refl, ap}
 use Rattle.std.proofs.Common.{sym, ◌∙◌, arith, drop-drop}
-use Rattle.std.proofs.lemmas.List.{drop_more, take_rest, length-take-le, get_or-take}
+use Rattle.std.proofs.lemmas.List.{drop_more, take_rest}
 use Rattle.model.specs.Jobs.{coordinate, coordinates, is_zero, kind, placed, marked}
 
 pub coordinates_are : (zs : List ℤ) → coordinates zs ≡ list_all coordinate zs
@@ -52,15 +52,12 @@ marks_from n i ms vs h k =
 
 -- a turn of the loop over the first n marks, at mark i, whose kind was told, and after the last of them
 module _ (n i : ℕ) (ms vs : List ℤ) (few : n ≤ length ms) (all : Bool) (inv : all ≡ marked (n - i) (drop i ms) (drop (8 * i) vs)) where
-  module _ (h : i < length (take n ms)) (m : ℤ) (k : Bool) (e : m ≡ get_or (take n ms) i (pos 0)) (f : k ≡ kind m (take (length vs - 8 * i) (drop (8 * i) vs))) where
-    under : i < n
-    under = omega (arith, length-take-le n ms few)
-
+  module _ (h : i < n) (m : ℤ) (k : Bool) (e : m ≡ get_or ms i (pos 0)) (f : k ≡ kind m (take (length vs - 8 * i) (drop (8 * i) vs))) where
     told : k ≡ kind (get_or ms i (pos 0)) (drop (8 * i) vs)
-    told = f ∙ (ap (kind m) (take_rest vs (8 * i)) ∙ ap (λ m. kind m (drop (8 * i) vs)) (e ∙ get_or-take n ms i (pos 0) under))
+    told = f ∙ (ap (kind m) (take_rest vs (8 * i)) ∙ ap (λ m. kind m (drop (8 * i) vs)) e)
 
     one : all ≡ (k && marked (n - (i + 1)) (drop (i + 1) ms) (drop (8 * (i + 1)) vs))
-    one = let u = under in inv ∙ (marks_from n i ms vs u (omega arith) ∙ ap (λ b. b && marked (n - (i + 1)) (drop (i + 1) ms) (drop (8 * (i + 1)) vs)) (sym told))
+    one = inv ∙ (marks_from n i ms vs h (omega arith) ∙ ap (λ b. b && marked (n - (i + 1)) (drop (i + 1) ms) (drop (8 * (i + 1)) vs)) (sym told))
 
     pub marks_stop : k ≡ false → false ≡ all
     marks_stop t = sym (one ∙ ap (λ b. b && marked (n - (i + 1)) (drop (i + 1) ms) (drop (8 * (i + 1)) vs)) t)
@@ -68,8 +65,7 @@ module _ (n i : ℕ) (ms vs : List ℤ) (few : n ≤ length ms) (all : Bool) (in
     pub marks_go : k ≡ true → all ≡ marked (n - (i + 1)) (drop (i + 1) ms) (drop (8 * (i + 1)) vs)
     marks_go t = one ∙ ap (λ b. b && marked (n - (i + 1)) (drop (i + 1) ms) (drop (8 * (i + 1)) vs)) t
 
-  pub marks_end : (r : Bool) → i ≡ length (take n ms) → r ≡ placed 0 (take (length ms - n) (drop n ms)) → r ≡ all
-  marks_end r h e =
-      let u : i ≡ n = omega (arith, length-take-le n ms few) in
+  pub marks_end : (r : Bool) (k : ℕ) → r ≡ placed 0 (take (length ms - k) (drop k ms)) → k ≡ n → i ≡ n → r ≡ all
+  marks_end r k e s u =
       let z : n - i ≡ 0 = omega arith in
-      e ∙ (ap (placed 0) (take_rest ms n) ∙ sym (inv ∙ (ap (λ k. marked k (drop i ms) (drop (8 * i) vs)) z ∙ (marks_past (drop i ms) (drop (8 * i) vs) ∙ ap (λ d. placed 0 (drop d ms)) u))))
+      e ∙ (ap (placed 0) (take_rest ms k ∙ ap (λ d. drop d ms) (s ∙ sym u)) ∙ sym (inv ∙ (ap (λ k. marked k (drop i ms) (drop (8 * i) vs)) z ∙ marks_past (drop i ms) (drop (8 * i) vs))))
