@@ -27,6 +27,7 @@ pub fn clearance_version() -> u64
 }
 
 // Reads a sheet into `job`: 0, or the sheet's refusal 1, 2, 3 or 4.
+#[tactic(auto, unfolding(crate::specs::Rows::read_leaves, model::specs::Refusals::accepted))]
 pub fn clearance_read(sheet: &[u8], job: &mut [i32; NUMBERS]) -> u8
     ensures refusal { result ≡ (entries.read sheet.now).refusal }
     ensures row { job.new ≡ read_leaves sheet.now job.old }
