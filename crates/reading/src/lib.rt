@@ -15,17 +15,17 @@ use scanning::{Scanned, form_at};
 
 // An edge: its mark, and its numbers with zeros past them.
 #[derive(Clone, Copy)]
-struct Edge {
-    mark: i32,
-    places: [i32; 8],
+pub struct Edge {
+    pub mark: i32,
+    pub places: [i32; 8],
 }
 
 // The edges of a sheet: how many, and the numbers and the marks of the first 64, as a job has them in fixed memory.
 #[derive(Clone, Copy)]
-struct Edges {
-    count: usize,
-    places: [i32; 512],
-    marks: [i32; 64],
+pub struct Edges {
+    pub count: usize,
+    pub places: [i32; 512],
+    pub marks: [i32; 64],
 }
 
 impl Edges {
@@ -36,10 +36,13 @@ impl Edges {
         ensures places { self.new.places ≡ keep 8 self.old.places self.old.count edge.places }
         ensures marks { self.new.marks ≡ keep 1 self.old.marks self.old.count (edge.mark ∷ []) }
     {
-        let kept = self.count < 64;
-        if kept {
+        let placed = self.count < 64;
+        if placed {
             let base = self.count * 8;
             self.places[base..base + 8].copy_from_slice(&edge.places);
+        }
+        let marked = self.count < 64;
+        if marked {
             self.marks[self.count] = edge.mark;
         }
         self.count += 1;
@@ -48,13 +51,13 @@ impl Edges {
 
 // The numbers of the lines before the edges.
 #[derive(Clone, Copy)]
-struct Head {
-    x: i32,
-    y: i32,
-    n: i32,
-    m: i32,
-    reach: i32,
-    grain: i32,
+pub struct Head {
+    pub x: i32,
+    pub y: i32,
+    pub n: i32,
+    pub m: i32,
+    pub reach: i32,
+    pub grain: i32,
 }
 
 // A line of one number that may be left out, and then says `other`.
