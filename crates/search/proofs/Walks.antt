@@ -92,21 +92,21 @@ module _ {v : Strip → Answer} {rest : List ℤ} {t : Tree} {found : Answer} (w
     room = (omega (arith, n_is, size_pos w.tree), omega (arith, pending.room w.holds, n_is))
 
     -- one that is away is done with, and its halves too
-    pub past_away : away ≡ v (strip_in rest) → Sofar v (drop (width * n) rest) t found
-    past_away f = record {
+    pub past_away : {k : ℕ} → k ≡ width * n → away ≡ v (strip_in rest) → Sofar v (drop k rest) t found
+    past_away i f = record {
       low = w.low;
       pending = w.others;
-      holds = subst (λ (k : ℕ). Rest (drop k rest) 0 w.others) (omega (arith, n_is)) (from rest (0 + width * size w.tree) w.others (pending.past rest 0 w.tree w.others w.holds));
+      holds = subst (λ (k : ℕ). Rest (drop k rest) 0 w.others) (omega (arith, n_is, i)) (from rest (0 + width * size w.tree) w.others (pending.past rest 0 w.tree w.others w.holds));
       joined = omega (arith, w.joined, ap code f, ap code answer_is, closed v w.tree (λ k. omega (arith, k, ap code f, ap code answer_is)));
     }
 
     -- a leaf that is maybe is found
-    pub past_leaf : maybe ≡ v (strip_in rest) → n ≡ 1 → Sofar v (drop width rest) t maybe
-    past_leaf f k = record {
+    pub past_leaf : {k : ℕ} → k ≡ width → maybe ≡ v (strip_in rest) → n ≡ 1 → Sofar v (drop k rest) t maybe
+    past_leaf {k} i f o = record {
       low = omega arith;
       pending = w.others;
-      holds = let one : 0 + width * size w.tree ≡ width = omega (arith, n_is, k) in subst (λ (k : ℕ). Rest (drop k rest) 0 w.others) one (from rest (0 + width * size w.tree) w.others (pending.past rest 0 w.tree w.others w.holds));
-      joined = omega (arith, w.joined, w.low, ap code f, ap code answer_is, alone v w.tree (sym n_is ∙ k));
+      holds = let one : 0 + width * size w.tree ≡ k = omega (arith, n_is, o, i) in subst (λ (k : ℕ). Rest (drop k rest) 0 w.others) one (from rest (0 + width * size w.tree) w.others (pending.past rest 0 w.tree w.others w.holds));
+      joined = omega (arith, w.joined, w.low, ap code f, ap code answer_is, alone v w.tree (sym n_is ∙ o));
     }
 
     -- and settles all where no node answers above that
@@ -114,9 +114,9 @@ module _ {v : Strip → Answer} {rest : List ℤ} {t : Tree} {found : Answer} (w
     leaf_ends f k h = same_code maybe (explore v t) (omega (arith, w.joined, ap code f, ap code answer_is, alone v w.tree (sym n_is ∙ k)))
 
     -- the halves of any other come next
-    pub into_halves : maybe ≡ v (strip_in rest) → (n ≡ 1 → ⊥) → Sofar v (drop width rest) t found
+    pub into_halves : {k : ℕ} → k ≡ width → maybe ≡ v (strip_in rest) → (n ≡ 1 → ⊥) → Sofar v (drop k rest) t found
     unfolding explore
-    into_halves f k = go w.tree w.holds w.joined (f ∙ answer_is) (λ z. k (n_is ∙ z))
+    into_halves {k} i f h = subst (λ (k : ℕ). Sofar v (drop k rest) t found) (sym i) (go w.tree w.holds w.joined (f ∙ answer_is) (λ z. h (n_is ∙ z)))
       where
         go : (u : Tree) → Rest rest 0 (u ∷ w.others) → code (explore v t) ≡ max (code found) (max (code (explore v u)) (told v w.others)) → maybe ≡ v (top u) → (size u ≡ 1 → ⊥) → Sofar v (drop width rest) t found
         go (leaf s) r j f z = absurd (z refl)

@@ -87,10 +87,12 @@ pub fn search(part: &[i32], probe: Probe) -> Answer
     // no `for`: how far the next node lies is told by this one's answer
     while !rest.is_empty() {
         let nodes = count_at(rest, COUNT);
-        match own(rest, probe) {
+        let subtree = WIDTH * nodes;
+        let step = match own(rest, probe) {
             Answer::Inside => return Answer::Inside,
-            Answer::Away => rest = &rest[WIDTH * nodes..],
-            Answer::Maybe => {
+            Answer::Away => subtree,
+            // maybe: `_` and not its name, since an edit lets a node that is inside come here
+            _ => {
                 let leaf = nodes == 1;
                 if leaf {
                     if settles {
@@ -98,9 +100,10 @@ pub fn search(part: &[i32], probe: Probe) -> Answer
                     }
                     found = Answer::Maybe;
                 }
-                rest = &rest[WIDTH..];
+                WIDTH
             }
-        }
+        };
+        rest = &rest[step..];
     }
     found
 }
