@@ -17,7 +17,7 @@ use lib.Seq.{get_or-drop, ext_get_or}
 use Rattle.integers.specs.RingSolver.{name₄, reify, close, ok}
 use Rattle.integers.specs.Order.{◌≼◌, ≼_pos, num, ◌⊠◌}
 use Rattle.integers.specs.Inequalities.{≼_trans}
-use Rattle.integers.specs.Signed.{nat_abs_add, nat_abs_mul, fits32, called, back}
+use Rattle.integers.specs.Signed.{Made, nat_abs_add, nat_abs_mul, fits32, called, back}
 use Rattle.sequences.specs.RowMajor.{row_major, length_row_major, is_row_major}
 use Rattle.model.specs.declared.Job.{Job}
 use Rattle.model.specs.Jobs.{plate_log, cell_log, judge}
@@ -85,10 +85,11 @@ log_bits z n = rw (log_read n) (go z n)
     go (negsuc k) n = absurd n.nonneg
 
 -- a length in fine units
+pub fine_made : (v z : ℤ) → v ≡ pos 16 *ℤ to_z w32 (of_z w32 z) → nat_abs z ≤ 1000000 → Made v (pos 16 *ℤ z) 16000000
+fine_made v z e h = let r : to_z w32 (of_z w32 z) ≡ z = to_z-of_z (fits32 h tt) in called (rw r at e) (omega (arith, nat_abs_mul (pos 16) z, h)) tt
+
 pub fine_read : (v z : ℤ) → v ≡ pos 16 *ℤ to_z w32 (of_z w32 z) → nat_abs z ≤ 1000000 → to_z w64 (of_z w64 v) ≡ pos 16 *ℤ z
-fine_read v z e h =
-    let r : to_z w32 (of_z w32 z) ≡ z = to_z-of_z (fits32 h tt) in
-    back (called {B = 16000000} (rw r at e) (omega (arith, nat_abs_mul (pos 16) z, h)) tt)
+fine_read v z e h = back (fine_made v z e h)
 
 less : (n m : ℤ) → T (non_neg n) → T (non_neg m) → nat_abs m ≤ nat_abs n → n -ℤ m ≡ pos (nat_abs n - nat_abs m)
 less (pos a) (pos b) t u h = omega (arith, ints)
@@ -139,6 +140,13 @@ side_size j good =
 -- rows begin within the plate
 pub row_size : (j : Job) → judge j ≡ 0 → (row : ℕ) → row ≤ columns j → row * (8 * 2 ^ cell_log j) ≤ 8388608
 row_size j good row h = le_trans (mul-le-mul_right (8 * 2 ^ cell_log j) h) (side_size j good)
+
+-- k half cells above the corner
+pub above : (j : Job) → judge j ≡ 0 → {k : ℕ} → k ≤ 2 * columns j → Made (to_z w64 k *ℤ to_z w64 ((8 * 2 ^ of_z w64 (to_z w32 (of_z w32 j.m))) % 2 ^ 64)) (pos k *ℤ pos (8 * 2 ^ cell_log j)) 16777216
+above j good {k} h =
+    let few : k < 2 ^ 63 = omega (arith, columns_few j good, h) in
+    let q : ℕ = 8 * 2 ^ cell_log j in
+    called (ap₂ (λ u v. u *ℤ v) (to_z_pos w64 few) (unit_read j good)) (omega (arith, nat_abs_mul (pos k) (pos q), mul-le-mul_right q h, mul_assoc 2 (columns j) q, side_size j good)) tt
 
 pub frame_sized : (j : Job) → judge j ≡ 0 → (row : ℕ) → row ≤ columns j → FrameSized (frame_of j row)
 frame_sized j good row h =

@@ -169,16 +169,18 @@ fn fine(z: i32) -> i64
     16 * i64::from(z)
 }
 
-// the frame of a legal job's rows
-fn frame_of(job: Job) -> Frame
+// the frame of a legal job's rows from one row on
+fn frame_of(job: Job, row: usize) -> Frame
     requires legal { judge job ≡ 0 }
-    ensures frame { result ≡ frame_of job 0 }
+    requires within { row ≤ columns job }
+    ensures frame { result ≡ frame_of job row }
 {
+    let q = 8 << job.m;
     Frame {
         n: columns_of(job),
         x: fine(job.x),
-        y: fine(job.y),
-        q: 8 << job.m,
+        y: fine(job.y) + (2 * row) as i64 * q,
+        q,
         k: job.m as usize + 4,
         reach: fine(job.reach),
     }
@@ -199,7 +201,7 @@ pub fn draw_by(cells: &mut [u8], store: &[i32], job: Job, way: Way)
     let mut list = [0; 64];
     open_edges::list_starts(store, &mut list[..job.count]);
     let places = &list[..job.count];
-    let frame = frame_of(job);
+    let frame = frame_of(job, 0);
     match way {
         Way::Rows => draw_by_rows(cells, store, places, frame),
         Way::Quarters => {
@@ -218,7 +220,7 @@ pub fn draw_map(cells: &mut [u8], store: &[i32], job: Job)
     requires ready { MapReady job cells.old store.now }
     ensures map { cells.new ≡ written (map_of job) cells.old }
 {
-    let way = if is_by_rows(frame_of(job)) {
+    let way = if is_by_rows(frame_of(job, 0)) {
         Way::Rows
     } else {
         Way::Quarters
