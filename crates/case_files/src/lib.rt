@@ -1,12 +1,12 @@
 // What the programs that run stored cases share: a case is an argument, the name of a file that holds a sheet.
 #![tactic(auto)]
 
-ghost use Rattle.std.specs.Prelude.{◌≡◌, [], ◌∷◌, T, pos, length, IfSome};
+ghost use Rattle.std.specs.Prelude.{◌≡◌, [], ◌∷◌, T, pos, length, IfOk, IfErr};
 ghost use Rattle.std.specs.Int.Signed.{non_neg};
 ghost use Rattle.std.specs.Counts.{IsPrefixLen};
 ghost use Rattle.model.specs.Forms.{write_form};
 ghost use Rattle.model.specs.Printing.{refused_form};
-ghost use Rattle.model.specs.Answers.{number_of, as_read};
+ghost use Rattle.model.specs.Answers.{as_read};
 ghost use Rattle.model.specs.Entries.{read};
 
 use model::{Job, Refusal};
@@ -56,42 +56,51 @@ pub fn open_case<R: Env + Files + Print>(rt: &R, i: usize) -> io::Result<R::File
     file
 }
 
-// Prints the name of case i and reads its sheet to the front of `sheet`, as the program reads its input: how many bytes it has, where it can be read.
-pub fn read_case<R: Env + Files + Print>(rt: &R, i: usize, sheet: &mut [u8]) -> Option<usize>
-    ensures count { IfSome result (λ k. IsPrefixLen k sheet.new) }
+// Prints the name of case i and reads its sheet to the front of `sheet`, as the program reads its input: how many bytes it has, or how many are
+// there where it could not be read to its end.
+pub fn read_case<R: Env + Files + Print>(rt: &R, i: usize, sheet: &mut [u8]) -> Result<usize, usize>
+    ensures count { IfOk result (λ k. IsPrefixLen k sheet.new) }
+    ensures failed { IfErr result (λ k. IsPrefixLen k sheet.new) }
 {
-    let mut file = open_case(rt, i).ok()?;
+    let Ok(mut file) = open_case(rt, i) else {
+        return Err(0);
+    };
     let input = streams::read_input(&mut file, sheet);
+    let count = streams::bytes_of(input);
     if streams::has_failed(input) {
-        return None;
+        Err(count)
+    } else {
+        Ok(count)
     }
-    Some(streams::bytes_of(input))
 }
 
 // Hands on the line of a refusal, and nothing else, and says how many bytes it has.
-fn hand_refusal(rt: &impl Print, text: &[u8], refusal: Refusal) -> usize
-    requires line { text.now ≡ write_form refused_form (pos (number_of refusal) ∷ []) }
+fn hand_refusal(rt: &impl Print, text: &[u8], refusal: u8) -> usize
+    requires line { text.now ≡ write_form refused_form (pos refusal ∷ []) }
     ensures bytes { result ≡ length text.now }
 {
     show(rt, text);
     text.len()
 }
 
-// Shows a refusal's line, and says how many bytes it has.
-pub fn show_refusal(rt: &impl Print, refusal: Refusal) -> usize
-    ensures bytes { result ≡ length (write_form refused_form (pos (number_of refusal) ∷ [])) }
+// Shows the line of a refusal's number, whichever it is, and says how many bytes it has.
+pub fn show_refusal(rt: &impl Print, refusal: u8) -> usize
+    ensures bytes { result ≡ length (write_form refused_form (pos refusal ∷ [])) }
 {
     let mut out = [0u8; 19];
-    let end = answering::put_refused(u8::from(refusal), &mut out);
+    let end = answering::put_refused(refusal, &mut out);
     hand_refusal(rt, &out[..end], refusal)
 }
 
-// Shows the refusal that reading a sheet gives, and nothing else, and says how many bytes its line has.
-pub fn show_refused(rt: &impl Print, refusal: Refusal, sheet: &[u8]) -> usize
-    requires answer { as_read (Err refusal) ≡ read sheet.now }
-    ensures bytes { result ≡ length (write_form refused_form (pos (read sheet.now).refusal ∷ [])) }
+// Shows the refusal that reading a sheet gives, 0 where it gives none, and nothing else, and says how many bytes its line has.
+pub fn show_refused(rt: &impl Print, got: Result<Job, Refusal>, sheet: &[u8]) -> usize
+    requires answer { as_read got ≡ read sheet.now }
+    ensures bytes { result ≡ length (write_form refused_form (pos (as_read got).refusal ∷ [])) }
 {
-    show_refusal(rt, refusal)
+    match got {
+        Ok(_) => show_refusal(rt, 0),
+        Err(refusal) => show_refusal(rt, u8::from(refusal)),
+    }
 }
 
 // Hands each case's job on in turn, and shows the refusal of a sheet that has none.
@@ -103,12 +112,13 @@ pub fn each_job<R: Env + Files + Print, F: FnMut(Job)>(rt: &R, mut visit: F)
             break;
         }
         let mut sheet = [0; 8193];
-        if let Some(k) = read_case(rt, i, &mut sheet) {
+        if let Ok(k) = read_case(rt, i, &mut sheet) {
             let sheet = &sheet[..k];
-            match clearance::read(sheet) {
+            let got = clearance::read(sheet);
+            match got {
                 Ok(job) => visit(job),
-                Err(refusal) => {
-                    show_refused(rt, refusal, sheet);
+                Err(_) => {
+                    show_refused(rt, got, sheet);
                 }
             }
         }

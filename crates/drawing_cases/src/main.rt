@@ -46,7 +46,7 @@ fn draw_job(rt: &impl Print, job: Job) {
     match clearance::map(job, store, &mut cells) {
         Ok(_) => show_ways(rt, job, store, &cells),
         Err(refusal) => {
-            case_files::show_refusal(rt, refusal);
+            case_files::show_refusal(rt, u8::from(refusal));
         }
     }
 }

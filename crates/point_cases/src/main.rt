@@ -33,7 +33,7 @@ fn show_answer(
             case_files::show(rt, b")\n");
         }
         Err(refusal) => {
-            case_files::show_refusal(rt, refusal);
+            case_files::show_refusal(rt, u8::from(refusal));
         }
     }
 }

@@ -36,6 +36,7 @@ impl Edges {
         ensures places { self.new.places ≡ keep 8 self.old.places self.old.count edge.places }
         ensures marks { self.new.marks ≡ keep 1 self.old.marks self.old.count (edge.mark ∷ []) }
     {
+        // a test each, so that a wrong bound in one of them loses no more than that one keeps
         let placed = self.count < 64;
         if placed {
             let base = self.count * 8;

@@ -2,3 +2,4 @@
 -- what is too long to be one.
 pub mod Reading
 pub mod Inputs
+pub mod Outputs

@@ -1,9 +1,9 @@
 // What the program writes. Two functions call the handles that print, and each asks for what it is to be given: the answer and standard output, a
 // line of two and standard error.
-ghost use Rattle.std.specs.Prelude.{◌≡◌, true, false, length};
+ghost use Rattle.std.specs.Prelude.{◌≡◌, true, false, pos, length};
 ghost use Rattle.streams.specs.Reading.{has_failed, Came};
 ghost use Rattle.streams.specs.Inputs.{Answers, Message};
-ghost use Rattle.streams.specs.declared.outputs.Stream.TheVariants.{Output, Errors};
+ghost use Rattle.streams.specs.Outputs.{descriptor};
 
 use crate::inputs::Input;
 use std::str;
@@ -13,6 +13,15 @@ use std::str;
 enum Stream {
     Output = 1,
     Errors = 2,
+}
+
+// The descriptor. Nothing but the two checks below reads it.
+impl From<Stream> for i32 {
+    ghost from_gives = { λ stream fd. fd ≡ descriptor stream };
+
+    fn from(stream: Stream) -> i32 {
+        stream as i32
+    }
 }
 
 // That an answer was handed on, and how many bytes it has; or that none was, and standard error tells why. The field is private, so that only
@@ -30,21 +39,23 @@ fn write_answer(
     held: &[u8],
     input: Input,
 ) -> bool
-    requires standard_output { stream ≡ Output }
+    requires standard_output { descriptor stream ≡ pos 1 }
     requires came { Came held.now input }
     requires read { has_failed input ≡ false }
     requires answer { Answers held.now input.count text.now }
 {
-    prove!(matches!(stream, Stream::Output));
+    let fd = i32::from(stream);
+    prove!(fd == 1);
     rt.write_all(text).is_ok()
 }
 
 // Tells what failed. Standard error takes text, which both lines are.
 fn tell(rt: &(impl Print + Eprint), stream: Stream, line: &[u8])
-    requires standard_error { stream ≡ Errors }
+    requires standard_error { descriptor stream ≡ pos 2 }
     requires message { Message line.now }
 {
-    prove!(matches!(stream, Stream::Errors));
+    let fd = i32::from(stream);
+    prove!(fd == 2);
     if let Ok(text) = str::from_utf8(line) {
         let _told = rt.eprint(text);
     }
