@@ -1,5 +1,5 @@
 -- The job's numbers as they are read.
-use mathlib.Core.Path.{◌≡◌, ap}
+use mathlib.Core.Path.{◌≡◌, ap, ◌∙◌}
 use Prim.Native.Nat.{ℕ, ◌+◌, ◌*◌, ◌%◌, ◌^◌, ◌≤◌}
 use native.Mathlib.Omega.{arith}
 use lib.IntN.{ℤ, pos, nat_abs, ◌+ℤ◌, ◌*ℤ◌}
@@ -20,6 +20,9 @@ same d e f g h i = cc
 -- where the rows begin
 row_at : (j : Job) → judge j ≡ 0 → {k : ℕ} → k ≤ 2 * columns j → {v : ℤ} → v ≡ pos 16 *ℤ to_z w32 (of_z w32 j.y) → Made (bits v +ℤ bits (to_z w64 k *ℤ to_z w64 ((8 * 2 ^ of_z w64 (to_z w32 (of_z w32 j.m))) % 2 ^ 64))) (pos 16 *ℤ j.y +ℤ pos k *ℤ pos (8 * 2 ^ cell_log j)) 32777216
 row_at j good h {v} e = plus (fine_made v j.y e (job_numbers j good).corner_y) (above j good h) tt
+
+row_is : (j : Job) → judge j ≡ 0 → (row : ℕ) → row ≤ columns j → {k : ℕ} → k ≡ 2 * row → {v : ℤ} → v ≡ pos 16 *ℤ to_z w32 (of_z w32 j.y) → bits (bits v +ℤ bits (to_z w64 k *ℤ to_z w64 ((8 * 2 ^ of_z w64 (to_z w32 (of_z w32 j.m))) % 2 ^ 64))) ≡ pos 16 *ℤ j.y +ℤ pos (2 * row) *ℤ pos (8 * 2 ^ cell_log j)
+row_is j good row h i e = back (row_at j good (omega (arith, h, i)) e) ∙ ap (λ (k : ℕ). pos 16 *ℤ j.y +ℤ pos k *ℤ pos (8 * 2 ^ cell_log j)) i
 
 fits : {v z : ℤ} {B : ℕ} → Made v z B → SFits w64 v
 fits m = m.fits
@@ -50,5 +53,5 @@ returns c =
     let j = c.args.job in
     let s = job_numbers j c.requires.legal in
     record {
-      frame = same c.columns_of.ensures.side (fine_read c.fine.result j.x c.fine.ensures.sixteenths s.corner_x) (back (row_at j c.requires.legal (omega (arith, c.requires.within)) c.fine-2.ensures.sixteenths)) (unit_read j c.requires.legal) (ap (λ (z : ℤ). nat_abs z + 4) (log_read s.cell)) (fine_read c.fine-3.result j.reach c.fine-3.ensures.sixteenths s.reach.most);
+      frame = same c.columns_of.ensures.side (fine_read c.fine.result j.x c.fine.ensures.sixteenths s.corner_x) (row_is j c.requires.legal c.args.row c.requires.within (omega arith) c.fine-2.ensures.sixteenths) (unit_read j c.requires.legal) (ap (λ (z : ℤ). nat_abs z + 4) (log_read s.cell)) (fine_read c.fine-3.result j.reach c.fine-3.ensures.sixteenths s.reach.most);
     }
