@@ -1,18 +1,14 @@
 -- The quotient that the code takes is the nearest whole number, and a test on the machine tells whether it is x / n. Assumes nothing.
 use Rattle.std.proofs.Common.{◌≡◌, refl, sym, ap, ◌∙◌, ◌≤◌, ◌<◌, ◌^◌, ◌+◌, ◌*◌, T, cond, eqb, eq-eqb, eqb-true, ℕ, ℤ, pos, negsuc, nat_abs, ◌+ℤ◌, ◌*ℤ◌, FitsSigned, of_z, to_z, to_z-of_z, arith, le_trans}
 use Rattle.std.proofs.lemmas.Bool.{eqb-false}
-use Rattle.std.specs.Int.{w64, int_div_euclid}
+use Rattle.std.specs.Int.{w64}
 use Rattle.std.specs.Int.Signed.{non_neg, shr_z}
 use Rattle.integers.specs.Rounding.{nearest}
 use Rattle.integers.specs.Whole.{rest, rest_told, back_size}
 use Rattle.integers.specs.Signed.{fits64}
 
-down_is : (y : ℤ) (d : ℕ) → int_div_euclid y (pos d) ≡ shr_z y d
-down_is (pos a) d = refl
-down_is (negsuc a) d = refl
-
-pub nearest_is : (x n q : ℤ) → T (non_neg n) → q ≡ int_div_euclid (pos 2 *ℤ x +ℤ n) (pos 2 *ℤ n) → q ≡ nearest x (nat_abs n)
-nearest_is x (pos n) q t e = e ∙ down_is (pos 2 *ℤ x +ℤ pos n) (2 * n)
+pub nearest_is : (x n q : ℤ) → T (non_neg n) → q ≡ shr_z (pos 2 *ℤ x +ℤ n) (nat_abs (pos 2 *ℤ n)) → q ≡ nearest x (nat_abs n)
+nearest_is x (pos n) q t e = e
 nearest_is x (negsuc n) q t e = absurd t
 
 module _ (x : ℤ) (n : ℕ) (h : 0 < n) (a : nat_abs x ≤ 3900000000000000000) (b : n ≤ 8589934592) where

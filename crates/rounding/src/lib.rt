@@ -13,6 +13,15 @@ pub struct Quotient {
     pub whole: bool,
 }
 
+// y / d rounded down. The machine's division goes toward zero, which from 0 on is down. A number below 0 is -1 - z with z from 0 on, and its
+// quotient -1 - z / d. By hand: std's `div_euclid` asks for the sign of d too, and with it the powers of two that strips divide by were no shifts.
+fn floor(y: i64, d: i64) -> i64
+    requires sizes { (nat_abs y ≤ 7900000000000000000) × (nat_abs d ≤ 17179869184) × (0 < nat_abs d) × T (non_neg d) }
+    ensures down { result ≡ shr_z y (nat_abs d) }
+{
+    if y < 0 { -1 - (-1 - y) / d } else { y / d }
+}
+
 // The whole number nearest to x / n, a half toward plus infinity: x / n + 1/2 rounded down.
 #[tactic(auto, using(crate::proofs::Nearest::quotients))]
 fn nearest_to(x: i64, n: i64) -> i64
@@ -21,7 +30,7 @@ fn nearest_to(x: i64, n: i64) -> i64
 {
     let y = 2 * x + n;
     let d = 2 * n;
-    y.div_euclid(d)
+    floor(y, d)
 }
 
 // x / n rounded to the nearest whole number. It is that number itself just where n times it is x.
