@@ -13,7 +13,12 @@ fn differing(a: &[u8], b: &[u8]) -> usize
     requires maps { length a.now ≡ length b.now }
     ensures most { result ≤ length a.now }
 {
-    a.iter().zip(b).filter(|(x, y)| x != y).count()
+    let mut r = 0;
+    // no chain: a `zip` of two has two ends a turn, which took twice the time
+    for (i, x) in a.iter().enumerate() {
+        r += usize::from(*x != b[i]);
+    }
+    r
 }
 
 // the map drawn again in one way, beside what was drawn
