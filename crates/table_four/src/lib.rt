@@ -14,7 +14,7 @@ ghost use Rattle.table_four.specs.Stops.{FirstCell, FirstStop};
 
 use model::{CLEAR, DOUBTFUL, INSIDE, Job, Refusal};
 
-// A clamp: its first column and row, from 0, and its counts of columns and rows.
+// A clamp, as the block of the map's cells that it covers: the column and the row of the lower left one, and how many cells it is wide and high.
 #[derive(Clone, Copy)]
 pub struct Clamp {
     pub column: usize,
